@@ -70,32 +70,75 @@ fn answer_of(
     }
 }
 
-/// Has a replica absorb the items of the input, and prints its answer to a query at a time.
-fn show_answer<I: Read, W: Write, E: Write>(
+/// What is printed of a replica.
+#[derive(Clone, Copy)]
+enum View {
+    /// Its answer to a query at a time.
+    Answer { time: Time, query: Query },
+    /// Its range of readable times.
+    Front,
+    /// How far each of its streams is, and its range of readable times.
+    Status,
+}
+
+/// Prints a replica's answer to a query at a time.
+fn show_answer<W: Write, E: Write>(
     alloc: Global,
-    input: &mut I,
-    absorber: &mut Absorber,
+    absorber: &Absorber,
     time: Time,
     query: &Query,
     output: &mut Output<'_, W, E>,
 ) -> Result<(), Stop> {
-    hand_items(alloc, input, absorber)?;
     let answer = answer_of(alloc, absorber, time, query)?;
     output.show(&answer)
 }
 
-fn print_answer<I: Read, W: Write, E: Write>(
+/// Has a replica absorb the items of the input, and prints what is asked for.
+fn show<I: Read, W: Write, E: Write>(
+    alloc: Global,
+    input: &mut I,
+    absorber: &mut Absorber,
+    view: View,
+    output: &mut Output<'_, W, E>,
+) -> Result<(), Stop> {
+    hand_items(alloc, input, absorber)?;
+    let front = front_of(&absorber.state);
+    match view {
+        View::Answer { time, query } => show_answer(alloc, absorber, time, &query, output),
+        View::Front => output.show_front(front),
+        View::Status => put_status(absorber.state.got(), front, output),
+    }
+}
+
+/// The same with a replica that is empty before.
+fn print<I: Read, W: Write, E: Write>(
     alloc: Global,
     input: &mut I,
     config: Config,
-    time: Time,
-    query: &Query,
+    view: View,
     output: &mut Output<'_, W, E>,
 ) -> Result<(), Stop> {
     let mut absorber = empty(alloc, config)?;
-    let shown = show_answer(alloc, input, &mut absorber, time, query, output);
+    let shown = show(alloc, input, &mut absorber, view, output);
     absorber.leave();
     shown
+}
+
+/// Prints in a form what is asked for of a replica that absorbs the input, and returns the status.
+fn run_view<I: Read, W: Write, E: Write>(
+    alloc: Global,
+    input: &mut I,
+    writer: &mut W,
+    errors: &mut E,
+    config: Config,
+    view: View,
+    form: OutputForm,
+) -> u8
+    ensures { result ≤ 1 }
+{
+    let mut output = Output::of_form(alloc, form, writer, errors);
+    let printed = print(alloc, input, config, view, &mut output);
+    output.end(printed)
 }
 
 /// Absorbs the item frames of the input, and prints the answer to a query at a time, in a form. The replica's memory is left
@@ -115,9 +158,9 @@ pub fn run_ask<I: Read, W: Write, E: Write>(
 ) -> u8
     ensures { result ≤ 1 }
 {
-    let mut output = Output::of_form(alloc, form, writer, errors);
-    let printed = print_answer(alloc, input, config, time, query, &mut output);
-    ended(printed, &mut output)
+    let query = *query;
+    let view = View::Answer { time, query };
+    run_view(alloc, input, writer, errors, config, view, form)
 }
 
 /// The same of the query for the row at a table and a key.
@@ -134,31 +177,16 @@ pub fn run_at<I: Read, W: Write, E: Write>(
     ensures { result ≤ 1 }
 {
     let query = Query::Get { table, key };
-    let form = OutputForm::Lines;
-    run_ask(alloc, input, writer, errors, config, time, &query, form)
-}
-
-/// Has a replica absorb the items of the input, and prints its range of readable times.
-fn show_front<I: Read, W: Write, E: Write>(
-    alloc: Global,
-    input: &mut I,
-    absorber: &mut Absorber,
-    output: &mut Output<'_, W, E>,
-) -> Result<(), Stop> {
-    hand_items(alloc, input, absorber)?;
-    output.show_front(front_of(&absorber.state))
-}
-
-fn print_front<I: Read, W: Write, E: Write>(
-    alloc: Global,
-    input: &mut I,
-    config: Config,
-    output: &mut Output<'_, W, E>,
-) -> Result<(), Stop> {
-    let mut absorber = empty(alloc, config)?;
-    let shown = show_front(alloc, input, &mut absorber, output);
-    absorber.leave();
-    shown
+    let view = View::Answer { time, query };
+    run_view(
+        alloc,
+        input,
+        writer,
+        errors,
+        config,
+        view,
+        OutputForm::Lines,
+    )
 }
 
 /// Absorbs the item frames of the input, and prints the replica's range of readable times. What stops it, and the
@@ -173,33 +201,7 @@ pub fn run_front<I: Read, W: Write, E: Write>(
 ) -> u8
     ensures { result ≤ 1 }
 {
-    let mut output = Output::of_form(alloc, form, writer, errors);
-    let printed = print_front(alloc, input, config, &mut output);
-    ended(printed, &mut output)
-}
-
-/// Has a replica absorb the items of the input, and prints how far its streams are, and its range of readable times.
-fn show_status<I: Read, W: Write, E: Write>(
-    alloc: Global,
-    input: &mut I,
-    absorber: &mut Absorber,
-    output: &mut Output<'_, W, E>,
-) -> Result<(), Stop> {
-    hand_items(alloc, input, absorber)?;
-    let front = front_of(&absorber.state);
-    put_status(absorber.state.got(), front, output)
-}
-
-fn print_status<I: Read, W: Write, E: Write>(
-    alloc: Global,
-    input: &mut I,
-    config: Config,
-    output: &mut Output<'_, W, E>,
-) -> Result<(), Stop> {
-    let mut absorber = empty(alloc, config)?;
-    let shown = show_status(alloc, input, &mut absorber, output);
-    absorber.leave();
-    shown
+    run_view(alloc, input, writer, errors, config, View::Front, form)
 }
 
 /// Absorbs the item frames of the input, and prints a line for each stream, how far it is, and then the replica's range
@@ -214,21 +216,5 @@ pub fn run_status<I: Read, W: Write, E: Write>(
 ) -> u8
     ensures { result ≤ 1 }
 {
-    let mut output = Output::of_form(alloc, form, writer, errors);
-    let printed = print_status(alloc, input, config, &mut output);
-    ended(printed, &mut output)
-}
-
-/// Writes what was printed, or why it stopped, and returns the status.
-fn ended<W: Write, E: Write>(printed: Result<(), Stop>, output: &mut Output<'_, W, E>) -> u8
-    ensures { result ≤ 1 }
-{
-    let flushed = match printed {
-        Ok(()) => output.flush(),
-        Err(stop) => Err(stop),
-    };
-    match flushed {
-        Ok(()) => 0,
-        Err(stop) => output.stop(stop),
-    }
+    run_view(alloc, input, writer, errors, config, View::Status, form)
 }

@@ -70,8 +70,5 @@ pub fn run_explain<W: Write, E: Write>(
         Ok(_known) => output.send(text.as_bytes()),
         Err(memory) => Err(Stop::from(memory)),
     };
-    match sent {
-        Ok(()) => 0,
-        Err(stop) => output.stop(stop),
-    }
+    output.end(sent)
 }

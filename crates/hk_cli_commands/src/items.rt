@@ -36,11 +36,6 @@ pub fn run_items<I: Read, W: Write, E: Write>(
     ensures { result ≤ 1 }
 {
     let mut output = Output::of_form(alloc, form, writer, errors);
-    if let Err(stop) = hand_items(alloc, input, &mut output) {
-        return output.stop(stop);
-    }
-    match output.flush() {
-        Ok(()) => 0,
-        Err(stop) => output.stop(stop),
-    }
+    let printed = hand_items(alloc, input, &mut output);
+    output.end(printed)
 }

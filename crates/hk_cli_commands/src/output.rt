@@ -1,6 +1,6 @@
 //! What a command prints, gathered into larger writes.
 
-ghost use Rattle.std.specs.Prelude.{◌≡◌};
+ghost use Rattle.std.specs.Prelude.{◌≡◌, ◌≤◌};
 
 use crate::flaw::{Flaw, put_bad_line};
 use crate::json::{LineFault, put_bad_item};
@@ -300,6 +300,21 @@ impl<'a, W: Write, E: Write> Output<'a, W, E> {
         match self.writer.flush() {
             Ok(()) => Ok(()),
             Err(error) => Err(self.write_fault(&error)),
+        }
+    }
+
+    /// Writes what was gathered, and then why the command stopped, where it did. The status of the command: 0, or 1 where
+    /// it stopped. Cost: that of `flush`.
+    pub(crate) fn end(&mut self, printed: Result<(), Stop>) -> u8
+        ensures { result ≤ 1 }
+    {
+        let ended = match printed {
+            Ok(()) => self.flush(),
+            Err(stop) => Err(stop),
+        };
+        match ended {
+            Ok(()) => 0,
+            Err(stop) => self.stop(stop),
         }
     }
 

@@ -28,14 +28,8 @@ pub fn run_rewrite<I: Read, W: Write, E: Write>(
     ensures { result ≤ 1 }
 {
     let mut output = Output::of_form(alloc, OutputForm::Bytes, writer, errors);
-    let sent = match rewritten(alloc, input) {
-        Ok(frames) => output.send(&frames),
-        Err(stop) => Err(stop),
-    };
-    match sent {
-        Ok(()) => 0,
-        Err(stop) => output.stop(stop),
-    }
+    let sent = send_rewritten(alloc, input, &mut output);
+    output.end(sent)
 }
 
 /// All bytes of an input.
@@ -55,13 +49,17 @@ impl Pieces for Whole {
     }
 }
 
-/// The frames of version 2 of all the items of the input.
-fn rewritten<I: Read>(alloc: Global, input: &mut I) -> Result<Vec<u8>, Stop> {
+/// Writes the frames of version 2 of all the items of the input.
+fn send_rewritten<I: Read, W: Write, E: Write>(
+    alloc: Global,
+    input: &mut I,
+    output: &mut Output<'_, W, E>,
+) -> Result<(), Stop> {
     let mut whole = Whole {
         bytes: Vec::new(alloc),
     };
     read_pieces(alloc, input, &mut whole)?;
     let mut frames = Vec::new(alloc);
     rewrite(alloc, &whole.bytes, &mut frames)?;
-    Ok(frames)
+    output.send(&frames)
 }

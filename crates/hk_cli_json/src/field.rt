@@ -11,6 +11,12 @@ use std::alloc::Global;
 #[derive(Clone, Copy)]
 pub(crate) struct Wide(pub(crate) u64);
 
+impl Wide {
+    pub(crate) fn zero() -> Wide {
+        Wide(0)
+    }
+}
+
 /// The number that decimal digits alone make.
 fn number_of(digits: &str) -> Option<u64>
     ensures { IfSome result (λ n. spec.Writes digits.now n) }
@@ -38,6 +44,12 @@ impl<'de> Deserialize<'de> for Wide {
 #[derive(Clone, Copy)]
 pub(crate) struct Moment(pub(crate) Time);
 
+impl Moment {
+    pub(crate) fn zero() -> Moment {
+        Moment(Time::zero())
+    }
+}
+
 impl<'de> Deserialize<'de> for Moment {
     fn deserialize<F: Format>(
         alloc: Global,
@@ -54,6 +66,12 @@ impl<'de> Deserialize<'de> for Moment {
 /// The number of a stream.
 #[derive(Clone, Copy)]
 pub(crate) struct Stream(pub(crate) StreamNo);
+
+impl Stream {
+    pub(crate) fn first() -> Stream {
+        Stream(StreamNo::new(1).unwrap())
+    }
+}
 
 impl<'de> Deserialize<'de> for Stream {
     fn deserialize<F: Format>(
@@ -73,6 +91,10 @@ impl<'de> Deserialize<'de> for Stream {
 pub(crate) struct Body(String);
 
 impl Body {
+    pub(crate) fn empty(alloc: Global) -> Body {
+        Body(String::new(alloc))
+    }
+
     /// The bytes of these digits.
     pub(crate) fn bytes(&self, alloc: Global) -> Option<Vec<u8>>
         ensures { IfSome result (λ bytes. bytes.items ≡ spec.body_of self.now) }

@@ -10,6 +10,7 @@ mod fragment;
 mod item;
 mod item_line;
 mod line;
+mod object;
 mod reading;
 mod refusal;
 mod row;

@@ -3,14 +3,14 @@
 use crate::link::{Link, unasked};
 use crate::order::Terminal;
 use crate::parts::{Parts, TOO_LONG, hand_parts, is_too_long, taking};
-use crate::read::{front_at, send_parts};
+use crate::read::{front_at, send_parts, send_request};
 use crate::stream::opened;
 use hk_cli_calls::{Limits, NodeCall, NodePlace};
 use hk_cli_commands::{Output, Stop};
 use hk_cli_reasons::{Origin, RequestContext};
 use hk_log::Version;
 use hk_types::{Refusal, Time, VersionKey};
-use hk_wire::{LaterReply, LaterRequest, Reply, Request, encode_request};
+use hk_wire::{LaterReply, LaterRequest, Request};
 use std::alloc::Global;
 use std::io::Write;
 use std::net::{Net, TcpListener, TcpStream};
@@ -66,11 +66,10 @@ fn whole_after(from: &mut Link<'_>, base: Time, why: Refusal) -> Result<Handed, 
         let origin = from.origin(RequestContext::At(base));
         return Err(Stop::RefusedAt(why, origin));
     }
-    let reply = from.ask(&Request::Full)?;
-    match reply {
-        Reply::Fragment(whole) => Ok(Handed::Frame(Request::MergeThis(whole))),
-        Reply::Refused(why) => long_whole(why, from.origin(RequestContext::Nothing)),
-        _none => Err(unasked()),
+    let whole = from.fragment(&Request::Full)?;
+    match whole {
+        Ok(whole) => Ok(Handed::Frame(Request::MergeThis(whole))),
+        Err(why) => long_whole(why, from.origin(RequestContext::Nothing)),
     }
 }
 
@@ -84,12 +83,10 @@ fn without_delta(from: &mut Link<'_>, base: Time, why: Refusal) -> Result<Handed
 
 /// What a node has applied since a time, or its full snapshot where it can't cut a delta there.
 fn handed_on(from: &mut Link<'_>, base: Time) -> Result<Handed, Stop> {
-    let request = Request::Delta { base };
-    let reply = from.ask(&request)?;
-    match reply {
-        Reply::Fragment(delta) => Ok(Handed::Frame(Request::JoinThis(delta))),
-        Reply::Refused(why) => without_delta(from, base, why),
-        _none => Err(unasked()),
+    let delta = from.fragment(&Request::Delta { base })?;
+    match delta {
+        Ok(delta) => Ok(Handed::Frame(Request::JoinThis(delta))),
+        Err(why) => without_delta(from, base, why),
     }
 }
 
@@ -109,6 +106,23 @@ impl Parts for Adder<'_, '_> {
     }
 }
 
+/// Adds to a node the chunks of what another has applied since a time, and returns the request by which it joins them.
+fn add_parts(own: &mut Link<'_>, other: &mut Link<'_>, base: Time) -> Result<LaterRequest, Stop> {
+    let mut adder = Adder { link: own };
+    let head = hand_parts(other, base, &mut adder)?;
+    Ok(taking(head))
+}
+
+/// Has a node join the chunks that were added, and prints its number.
+fn join_parts<W: Write, E: Write>(
+    own: &mut Link<'_>,
+    request: LaterRequest,
+    output: &mut Output<'_, W, E>,
+) -> Result<(), Stop> {
+    let reply = own.granted_later(request)?;
+    output.print(&reply)
+}
+
 /// Copies to a node in chunks what another has applied since a time, or its full snapshot since 0, and prints the
 /// node's number. Where one of them doesn't read requests of chunks, it stops for what was refused before.
 fn pull_parts<W: Write, E: Write>(
@@ -121,10 +135,8 @@ fn pull_parts<W: Write, E: Write>(
     if !own.reads_later()? || !other.reads_later()? {
         return Err(Stop::RefusedAt(TOO_LONG, long));
     }
-    let mut adder = Adder { link: own };
-    let head = hand_parts(other, base, &mut adder)?;
-    let reply = own.granted_later(taking(head))?;
-    output.print(&reply)
+    let request = add_parts(own, other, base)?;
+    join_parts(own, request, output)
 }
 
 /// Copies to the node what the call's source has applied since the node's resolved time, and prints its number.
@@ -136,13 +148,22 @@ pub(crate) fn pull<R: Net<Listener = TcpListener, Stream = TcpStream> + Clock, W
     output: &mut Output<'_, W, E>,
 ) -> Result<(), Stop> {
     let source = call.source.unwrap_or(call.place);
+    output.copy_from(source)?;
     let stream = opened(rt, source, call.limits, output)?;
     let mut other = Link::new(own.alloc(), &stream, call.limits, terminal.errors, true)?;
-    output.copy_from(source)?;
+    pull_handed(own, &mut other, output)
+}
+
+/// The same over a connection to the source.
+fn pull_handed<W: Write, E: Write>(
+    own: &mut Link<'_>,
+    other: &mut Link<'_>,
+    output: &mut Output<'_, W, E>,
+) -> Result<(), Stop> {
     let front = front_at(own)?;
-    match handed_on(&mut other, front.readable)? {
+    match handed_on(other, front.readable)? {
         Handed::Frame(request) => tell(own, &request, output),
-        Handed::Long(base, long) => pull_parts(own, &mut other, base, long, output),
+        Handed::Long(base, long) => pull_parts(own, other, base, long, output),
     }
 }
 
@@ -157,24 +178,22 @@ pub fn fetch_from<R: Net<Listener = TcpListener, Stream = TcpStream> + Clock, W:
     base: Time,
     output: &mut Output<'_, W, E>,
 ) -> Result<(), Stop> {
+    output.copy_from(place)?;
     let stream = opened(rt, place, limits, output)?;
     let mut other = Link::new(alloc, &stream, limits, None, true)?;
-    output.copy_from(place)?;
-    match handed_on(&mut other, base)? {
-        Handed::Frame(request) => send_request(alloc, &request, output),
-        Handed::Long(base, long) => send_long(&mut other, base, long, output),
-    }
+    send_handed(&mut other, base, output)
 }
 
-/// Writes a request.
-fn send_request<W: Write, E: Write>(
-    alloc: Global,
-    request: &Request,
+/// The same over a connection to that node.
+fn send_handed<W: Write, E: Write>(
+    other: &mut Link<'_>,
+    base: Time,
     output: &mut Output<'_, W, E>,
 ) -> Result<(), Stop> {
-    let mut frame = Vec::new(alloc);
-    encode_request(request, &mut frame)?;
-    output.send(&frame)
+    match handed_on(other, base)? {
+        Handed::Frame(request) => send_request(other.alloc(), &request, output),
+        Handed::Long(base, long) => send_long(other, base, long, output),
+    }
 }
 
 /// Writes in chunks what a node has applied since a time, where it reads requests of chunks.

@@ -18,6 +18,17 @@ const MOST_ITEMS: u64 = 65_536;
 /// The most bytes of a batch: with one item more it is still a message.
 const MOST_BYTES: u64 = 67_108_864;
 
+/// What a node did with items.
+#[derive(Clone, Copy)]
+struct Fed {
+    /// How many it applied.
+    taken: u64,
+    /// How many of them it reported as new.
+    new: u64,
+    /// The number of its last operation.
+    ops: u64,
+}
+
 /// Items on their way to a node.
 #[derive(Drop)]
 struct Batches<'a, 'l> {
@@ -30,12 +41,8 @@ struct Batches<'a, 'l> {
     items: Vec<Item>,
     /// How many bytes their frames have.
     bytes: u64,
-    /// How many items the node applied.
-    taken: u64,
-    /// How many of them it reported as new.
-    new: u64,
-    /// The number of the node's last operation.
-    ops: u64,
+    /// What the node did with those before.
+    fed: Fed,
 }
 
 impl<'a, 'l> Batches<'a, 'l> {
@@ -48,9 +55,11 @@ impl<'a, 'l> Batches<'a, 'l> {
             with_second,
             items: Vec::new(alloc),
             bytes: 0,
-            taken: 0,
-            new: 0,
-            ops: 0,
+            fed: Fed {
+                taken: 0,
+                new: 0,
+                ops: 0,
+            },
         }
     }
 
@@ -62,9 +71,9 @@ impl<'a, 'l> Batches<'a, 'l> {
 
     /// Notes that the node applied so many items, of which so many were new.
     fn count(&mut self, items: u64, ops: u64, new: u64) {
-        self.ops = ops;
-        self.taken = self.taken.saturating_add(items);
-        self.new = self.new.saturating_add(new);
+        self.fed.ops = ops;
+        self.fed.taken = self.fed.taken.saturating_add(items);
+        self.fed.new = self.fed.new.saturating_add(new);
     }
 
     /// Notes the reply to a batch of so many items.
@@ -79,16 +88,20 @@ impl<'a, 'l> Batches<'a, 'l> {
         Ok(())
     }
 
-    /// Sends what was gathered, and waits until the node applied it. A request of version 2 is replied how many were new.
-    fn send(&mut self) -> Result<(), Stop> {
-        let count = self.items.len() as u64;
+    /// The request of what was gathered, which is taken out. One of version 2 is replied how many were new.
+    fn request(&mut self) -> Request {
         let items = mem::replace(&mut self.items, Vec::new(self.alloc));
         self.bytes = 0;
-        let request = if self.with_second {
-            Request::Feed(items)
-        } else {
-            Request::Items(items)
-        };
+        if self.with_second {
+            return Request::Feed(items);
+        }
+        Request::Items(items)
+    }
+
+    /// Sends what was gathered, and waits until the node applied it.
+    fn send(&mut self) -> Result<(), Stop> {
+        let count = self.items.len() as u64;
+        let request = self.request();
         let reply = self.link.granted(&request)?;
         self.note(&reply, count)
     }
@@ -98,7 +111,7 @@ impl<'a, 'l> Batches<'a, 'l> {
         if !self.items.is_empty() {
             return self.send();
         }
-        if self.taken == 0 {
+        if self.fed.taken == 0 {
             return Err(Stop::EmptyInput);
         }
         Ok(())
@@ -175,6 +188,18 @@ fn tell_taken<W: Write, E: Write>(
     }
 }
 
+/// Sends the items of the input to the node.
+fn feed_all<I: Read>(
+    link: &mut Link<'_>,
+    input: &mut I,
+    most: u64,
+    with_second: bool,
+) -> Result<Fed, Stop> {
+    let mut batches = Batches::new(link, most, with_second);
+    batches.hand_all(input)?;
+    Ok(batches.fed)
+}
+
 /// Sends the items of the input to the node, in batches of so many items or as many bytes as a batch may have, and prints the
 /// number of its last operation. By requests of version 2 it also prints how many items were new. The batches before what
 /// stops it stay applied.
@@ -188,10 +213,8 @@ pub(crate) fn feed<R: Clock, I: Read, W: Write, E: Write>(
 ) -> Result<(), Stop> {
     let alloc = link.alloc();
     let start = Instant::now(rt).ok();
-    let mut batches = Batches::new(link, most, with_second);
-    batches.hand_all(input)?;
-    let (ops, taken) = (batches.ops, batches.taken);
-    let new = if with_second { Some(batches.new) } else { None };
-    tell_taken(alloc, taken, new, millis_since(rt, start), output)?;
-    output.print(&Reply::Done { ops })
+    let fed = feed_all(link, input, most, with_second)?;
+    let new = if with_second { Some(fed.new) } else { None };
+    tell_taken(alloc, fed.taken, new, millis_since(rt, start), output)?;
+    output.print(&Reply::Done { ops: fed.ops })
 }

@@ -5,6 +5,7 @@ use crate::stream::Stream;
 use hk_cli_calls::Limits;
 use hk_cli_commands::{LinkFault, MOST_READS, PIECE_BYTES, Peer, Stop};
 use hk_cli_reasons::{Origin, Place, RequestContext};
+use hk_fragment::Fragment;
 use hk_log::Item;
 use hk_types::{FormFault, Refusal};
 use hk_wire::{LaterReply, LaterRequest, Reply, ReplyFeeder, Request, encode_request};
@@ -51,6 +52,23 @@ pub fn refusal_of(reply: &Reply) -> Option<Refusal> {
     match reply {
         Reply::Refused(why) | Reply::Later(LaterReply::Refused(why)) => Some(*why),
         _other => None,
+    }
+}
+
+/// The fragment that a reply gives, or why it is refused.
+fn fragment_of(reply: Reply) -> Result<Result<Fragment, Refusal>, Stop> {
+    match reply {
+        Reply::Fragment(fragment) => Ok(Ok(fragment)),
+        Reply::Refused(why) => Ok(Err(why)),
+        _none => Err(unasked()),
+    }
+}
+
+/// The reply of version 2 that a reply is.
+fn later_of(reply: Reply) -> Result<LaterReply, Stop> {
+    match reply {
+        Reply::Later(reply) => Ok(reply),
+        _none => Err(unasked()),
     }
 }
 
@@ -219,30 +237,52 @@ impl<'a> Link<'a> {
         }
     }
 
-    /// The next reply.
-    fn reply(&mut self) -> Result<Reply, Stop> {
+    /// Waits for the next reply.
+    fn wait(&mut self) -> Result<(), Stop> {
         for _ in 0..MOST_READS {
             if !self.replies.is_empty() {
                 self.is_answered = true;
                 self.progress.clear();
-                return Ok(self.replies.remove(0));
+                return Ok(());
             }
             self.receive()?;
         }
         Err(Stop::ReadFault)
     }
 
-    /// Sends a request and waits for its reply. One of version 2 has no meaning where version 1 was asked; a node that reads
-    /// version 1 alone refuses a request of version 2 in version 1.
+    /// That the reply that came may answer a request: one of version 2 has no meaning where version 1 was asked.
+    fn check_version(&self, request: &Request) -> Result<(), Stop> {
+        match self.replies.first() {
+            Some(Reply::Later(_)) if !is_later(request) => Err(Stop::Refused(OTHER_VERSION)),
+            _other => Ok(()),
+        }
+    }
+
+    /// Takes the reply that came.
+    fn take(&mut self) -> Result<Reply, Stop> {
+        if self.replies.is_empty() {
+            return Err(Stop::ReadFault);
+        }
+        Ok(self.replies.remove(0))
+    }
+
+    /// Sends a request and waits for its reply. A node that reads version 1 alone refuses a request of version 2 in version 1.
     pub(crate) fn ask(&mut self, request: &Request) -> Result<Reply, Stop> {
         self.begin();
         encode_request(request, &mut self.text)?;
         self.send()?;
-        let reply = self.reply()?;
-        if matches!(reply, Reply::Later(_)) && !is_later(request) {
-            return Err(Stop::Refused(OTHER_VERSION));
-        }
-        Ok(reply)
+        self.wait()?;
+        self.check_version(request)?;
+        self.take()
+    }
+
+    /// Sends a request, and waits for the fragment or the refusal that replies it.
+    pub(crate) fn fragment(
+        &mut self,
+        request: &Request,
+    ) -> Result<Result<Fragment, Refusal>, Stop> {
+        let reply = self.ask(request)?;
+        fragment_of(reply)
     }
 
     /// Sends a request and waits for its reply, which stops the command where it is a refusal.
@@ -281,10 +321,8 @@ impl<'a> Link<'a> {
 
     /// The same with a request of version 2, whose reply has its version.
     pub(crate) fn granted_later(&mut self, request: LaterRequest) -> Result<LaterReply, Stop> {
-        match self.granted(&Request::Later(request))? {
-            Reply::Later(reply) => Ok(reply),
-            _other => Err(unasked()),
-        }
+        let reply = self.granted(&Request::Later(request))?;
+        later_of(reply)
     }
 
     /// For how many milliseconds a request may be let wait: half of what the node's silence is waited for, and ten seconds at most.

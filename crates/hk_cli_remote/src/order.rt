@@ -59,7 +59,7 @@ where
     told.map(|()| false)
 }
 
-/// The same over a new connection to the node, and writes what was printed.
+/// The same over a new connection to the node.
 fn obey_at<R, I: Read, W: Write, E: Write>(
     rt: &R,
     alloc: Global,
@@ -71,11 +71,20 @@ fn obey_at<R, I: Read, W: Write, E: Write>(
 where
     R: Net<Listener = TcpListener, Stream = TcpStream> + Clock,
 {
+    output.ask_at(call.place)?;
     let stream = opened(rt, call.place, call.limits, output)?;
     let mut link = Link::new(alloc, &stream, call.limits, terminal.errors, false)?;
-    output.ask_at(call.place)?;
-    let is_refused = obey(rt, &mut link, call, input, terminal, output)?;
-    output.flush().map(|_written| is_refused)
+    obey(rt, &mut link, call, input, terminal, output)
+}
+
+/// Writes what was printed, where nothing stopped the command before.
+fn written<W: Write, E: Write>(
+    obeyed: Result<bool, Stop>,
+    output: &mut Output<'_, W, E>,
+) -> Result<bool, Stop> {
+    let is_refused = obeyed?;
+    output.flush()?;
+    Ok(is_refused)
 }
 
 /// Has the node at a place do what is asked, over a new connection, and prints its replies.
@@ -126,7 +135,8 @@ where
     ensures { result ≤ 1 }
 {
     let mut output = Output::of_form(alloc, call.order.form(), writer, errors);
-    match obey_at(rt, alloc, call, input, terminal, &mut output) {
+    let obeyed = obey_at(rt, alloc, call, input, terminal, &mut output);
+    match written(obeyed, &mut output) {
         Ok(is_refused) => u8::from(is_refused),
         Err(stop) => output.stop(stop),
     }

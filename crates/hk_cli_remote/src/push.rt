@@ -62,10 +62,17 @@ fn is_refused<W: Write, E: Write>(
     Ok(true)
 }
 
-/// Prints a reply, and writes what was printed.
-fn show<W: Write, E: Write>(reply: &Reply, output: &mut Output<'_, W, E>) -> Result<(), Stop> {
+/// Prints a reply to a request, writes what was printed, and returns whether the reply is a refusal.
+fn show<W: Write, E: Write>(
+    link: &mut Link<'_>,
+    request: &Request,
+    reply: &Reply,
+    output: &mut Output<'_, W, E>,
+) -> Result<bool, Stop> {
+    let is_refused = is_refused(link, request, reply, output)?;
     output.print(reply)?;
-    output.flush()
+    output.flush()?;
+    Ok(is_refused)
 }
 
 /// Sends a request, waits for its reply and prints it, and returns whether that is a refusal.
@@ -75,9 +82,7 @@ fn asked<W: Write, E: Write>(
     output: &mut Output<'_, W, E>,
 ) -> Result<bool, Stop> {
     let reply = link.ask(request)?;
-    let is_refused = is_refused(link, request, &reply, output)?;
-    show(&reply, output)?;
-    Ok(is_refused)
+    show(link, request, &reply, output)
 }
 
 /// Requests up to a version, on their way to a node.

@@ -130,24 +130,21 @@ pub(crate) fn tell_status<W: Write, E: Write>(
     link: &mut Link<'_>,
     output: &mut Output<'_, W, E>,
 ) -> Result<(), Stop> {
-    let front = front_at(link)?;
-    let request = Request::Delta {
-        base: front.readable,
-    };
-    let fragment = fragment_at(link, &request)?;
+    let base = front_at(link)?.readable;
+    let fragment = fragment_at(link, &Request::Delta { base })?;
     let got = fragment.got();
     let (horizon, readable) = (fragment.horizon(), got.readable());
     put_status(got, Front { horizon, readable }, output)
 }
 
-/// Writes a full snapshot as the request that gives it to a node.
-fn send_whole<W: Write, E: Write>(
+/// Writes a request.
+pub(crate) fn send_request<W: Write, E: Write>(
     alloc: Global,
-    whole: Fragment,
+    request: &Request,
     output: &mut Output<'_, W, E>,
 ) -> Result<(), Stop> {
     let mut frame = Vec::new(alloc);
-    encode_request(&Request::MergeThis(whole), &mut frame)?;
+    encode_request(request, &mut frame)?;
     output.send(&frame)
 }
 
@@ -179,16 +176,16 @@ impl<'o, 'p, W: Write, E: Write> Writer<'o, 'p, W, E> {
     }
 
     /// Writes a request.
-    fn send(&mut self, request: LaterRequest) -> Result<(), Stop> {
+    fn send(&mut self, request: &Request) -> Result<(), Stop> {
         self.frame.clear();
-        encode_request(&Request::Later(request), &mut self.frame)?;
+        encode_request(request, &mut self.frame)?;
         self.output.send(&self.frame)
     }
 }
 
 impl<W: Write, E: Write> Parts for Writer<'_, '_, W, E> {
     fn take(&mut self, facts: Vec<(VersionKey, Version)>) -> Result<(), Stop> {
-        self.send(LaterRequest::AddPart(facts))
+        self.send(&Request::Later(LaterRequest::AddPart(facts)))
     }
 }
 
@@ -200,7 +197,7 @@ pub(crate) fn send_parts<W: Write, E: Write>(
 ) -> Result<(), Stop> {
     let mut writer = Writer::new(link.alloc(), output);
     let head = hand_parts(link, base, &mut writer)?;
-    writer.send(taking(head))
+    writer.send(&Request::Later(taking(head)))
 }
 
 /// The same of a full snapshot that was refused, where a message has no room for it and the node reads requests of
@@ -222,11 +219,10 @@ fn save_frames<W: Write, E: Write>(
     link: &mut Link<'_>,
     output: &mut Output<'_, W, E>,
 ) -> Result<(), Stop> {
-    let reply = link.ask(&Request::Full)?;
-    match reply {
-        Reply::Fragment(whole) => send_whole(link.alloc(), whole, output),
-        Reply::Refused(why) => send_refused(link, why, output),
-        _none => Err(unasked()),
+    let whole = link.fragment(&Request::Full)?;
+    match whole {
+        Ok(whole) => send_request(link.alloc(), &Request::MergeThis(whole), output),
+        Err(why) => send_refused(link, why, output),
     }
 }
 
