@@ -21,6 +21,7 @@ sys.path.append(str(pathlib.Path(__file__).resolve().parents[1] / "lib"))
 import messages as say
 from checks import differ, ended, free_port, report
 from messages import E1, E2, E3, NEW_E1
+from staying import said
 
 ROOT = pathlib.Path(__file__).resolve().parents[2]
 PROGRAM = str(ROOT / "bin" / "hkrep")
@@ -52,7 +53,7 @@ class Node:
     def ends(self):
         """How the links ended, the status, and how many lines standard error has."""
         out, err = self.child.communicate(timeout=LIMIT)
-        return [int(line.removeprefix("ended ")) for line in out.splitlines()], self.child.returncode, len(err.splitlines())
+        return [int(line.removeprefix("ended ")) for line in out.splitlines()], self.child.returncode, len(list(said(err.splitlines())))
 
     def __enter__(self):
         return self
@@ -374,7 +375,7 @@ def failing_calls():
 
 def run(args, data=b""):
     got = subprocess.run([PROGRAM, *args], input=data, capture_output=True, timeout=LIMIT, check=False)
-    return got.stdout.decode(), got.returncode, len(got.stderr.splitlines())
+    return got.stdout.decode(), got.returncode, len(list(said(got.stderr.decode().splitlines())))
 
 
 def push(port, data):
@@ -472,7 +473,7 @@ def bad_ports_and_lines():
         problems += differ([("a port in use", run(["serve", "--log", "7", "--streams", "1", "--port", port, "--links", "1"]), ("refused 93\n", 1, 1))])
     serve = {"--log": "7", "--streams": "1", "--port": "7426", "--links": "1"}
     lines = [["serve", *(word for pair in {**serve, name: value}.items() for word in pair)] for name, value in (
-        ("--port", "0"), ("--port", "65536"), ("--port", "+1"), ("--links", "0"), ("--links", "65"), ("--links", "-1"), ("--streams", "65"),
+        ("--port", "65536"), ("--port", "+1"), ("--links", "0"), ("--links", "65"), ("--links", "-1"), ("--streams", "65"),
         ("--log", "x"), ("--more", "1"))]
     lines += [["serve"], ["push", "--port", "0"], ["push", "--port", "+7"], ["push", "--port", "65536"], ["push", "--port", "1", "2"]]
     for line in lines:

@@ -178,7 +178,7 @@ def of_world(source):
 
 LINES = [["at", "--log", "7", "--streams", "1", "1", "1", "5"], ["items"], ["items", "--json"], ["frames"], ["rewrite"], ["world"], ["--help"], ["--version"], ["push", "--port", "1"], ["ask", "--port", "1", "get", "1", "5"],
          ["feed", "--port", "1", "--batch", "7"],
-         ["serve", "--log", "7", "--streams", "1", "--port", "0", "--links", "1"], ["help", "at"], ["at", "--help"]]
+         ["serve", "--log", "7", "--streams", "1", "--port", "65536", "--links", "1"], ["help", "at"], ["at", "--help"]]
 
 
 # The commands that ask a node, and where one is that is never there.
@@ -195,11 +195,11 @@ def once(words):
 
 
 def of_lines(source):
-    """A command line; what it prints isn't looked at. A node that were started would wait without end, so its port stays 0."""
+    """A command line; what it prints isn't looked at. A node that were started would wait without end, so its port stays none."""
     words = list(source.choice(LINES))
     for _ in range(source.randint(0, 3)):
         place = source.randrange(len(words) + 1)
-        word = source.choice([*WORDS, *map(str, NUMBERS), *sum(LINES, []), "--", "-h", "--log=7", "--port=0", "é", "\udcff", "-" * 100, "9" * 5000])
+        word = source.choice([*WORDS, *map(str, NUMBERS), *sum(LINES, []), "--", "-h", "--log=7", "--port=65536", "é", "\udcff", "-" * 100, "9" * 5000])
         kind = source.randrange(4)
         if kind == 0 and place < len(words):
             words[place] = word
@@ -209,7 +209,8 @@ def of_lines(source):
             words.insert(place, word)
         elif place < len(words):
             words[place] = mutated(source, words[place].encode("utf-8", "surrogateescape")).replace(b"\0", b"").decode("utf-8", "surrogateescape")
-    if "serve" in words and "--port" in words and "0" not in words[words.index("--port") + 1:]:
+    place = next((at for at, word in enumerate(words) if word.startswith("--port")), None)
+    if "serve" in words and place is not None and "65536" not in "".join(words[place:place + 2]):
         words = ["serve"]
     return [(once(words), (compare.Frames.random(source).parts or [b""])[0] if source.random() < 0.5 else b"", None)]
 

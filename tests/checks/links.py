@@ -16,6 +16,7 @@ import messages as say
 from checks import differ, ended, guarded, is_built, report
 from client import Node
 from messages import E1, TOO_LONG
+from staying import said
 
 ROOT = pathlib.Path(__file__).resolve().parents[2]
 PROGRAM = ROOT / "bin" / "hkrep"
@@ -55,7 +56,7 @@ def asked(link):
 def told(child):
     """What the node printed since it listened, its status, and how many lines standard error has."""
     out, err = child.communicate(timeout=LIMIT)
-    return out.splitlines(), child.returncode, len(err.splitlines())
+    return out.splitlines(), child.returncode, len(list(said(err.splitlines())))
 
 
 def no_more_files():

@@ -431,6 +431,61 @@ def refused_requests():
     report(f"how a node answers: {', '.join(f'{kind} {count}' for kind, count in sorted(kinds.items()))}", [f"never {it}" for it in sorted(missing)])
 
 
+# ---- a long-running node
+
+# What a link asks one after the other: a change, a wait, and from the full snapshot on of a worker for long answers.
+TURNS = [say.front(), ALL, say.wait(9, 20), say.ask(3, say.get(1, 5)), say.full(), say.whole(0, 9), say.hold(2), say.front()]
+
+
+def turns(node):
+    """What each is told, and None where the link ended; one that hangs raises."""
+    told = []
+    with node.link() as link:
+        for request in TURNS:
+            try:
+                told.append(link.ask(request))
+            except (EOFError, ConnectionError):
+                told.append(None)
+            except TimeoutError:
+                told.append(("hangs",))
+            if told[-1] in (None, ("hangs",)):
+                break
+    return told
+
+
+def disturbed_turns(left):
+    """The kinds of what is told where one request for memory is refused, from the accept on, and what is wrong with them, or with the next link's."""
+    with Node(3, "--stay", "--workers", "1", "--messages", "2") as node, node.link() as first:
+        # it listens before all of it is there
+        first.ask(say.front())
+        node.page.arm(left)
+        told = turns(node)
+        node.page.arm(0)
+        kinds = ["ended" if it is None else it[:2] if it[0] == "refused" else it[0] for it in told]
+        wrong = [f"request {left}, {at}: {kind}" for at, (kind, wanted) in enumerate(zip(kinds, TURN_KINDS)) if kind not in (wanted, *TURN_REFUSALS)]
+        after = [it[0] for it in turns(node) if it]
+        return kinds, wrong + ([] if after == TURN_KINDS else [f"request {left}: the next link is told {after}"])
+
+
+TURN_KINDS = ["front", "done", "ready", "row", "fragment", "part", "held", "front"]
+# what is told where memory was refused, and of times that lack since it was
+TURN_REFUSALS = ("ended", ("refused", 90), ("refused", 42), ("refused", 26), "last part")
+
+
+def refused_turns():
+    """Each request for memory of a long-running node refused in turn, from a link's accept to its last reply: the link goes on or ends, and the next one is served."""
+    with Node(3, "--stay", "--workers", "1", "--messages", "2") as node, node.link() as first:
+        first.ask(say.front())
+        node.page.arm(0)
+        undisturbed, count = turns(node), node.page.get("count")
+        problems = [] if [it and it[0] for it in undisturbed] == TURN_KINDS else [f"undisturbed: {undisturbed}"]
+    seen = set()
+    for kinds, wrong in POOL.map(disturbed_turns, range(1, count + 1)):
+        problems += wrong
+        seen.update(kinds)
+    report(f"each request for memory of a long-running node refused in turn ({count} requests)", problems + [f"never {it}" for it in ("ended", ("refused", 90)) if it not in seen])
+
+
 # ---- messages of version 2
 
 # A request by its name, behind those that make the node's state and those that make the link's.
@@ -718,7 +773,7 @@ def main(words):
     start = time.monotonic()
     if not is_built(pathlib.Path(PROGRAM)):
         return ended()
-    for check in (every_request, every_start, every_push, refused_commands, refused_requests, refused_later, refused_in_tests, false_counts):
+    for check in (every_request, every_start, every_push, refused_commands, refused_requests, refused_turns, refused_later, refused_in_tests, false_counts):
         if not words or check.__name__ in words:
             timed(check)
     print(f"memory: {time.monotonic() - start:.1f} s")

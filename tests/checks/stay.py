@@ -4,8 +4,10 @@
 Prints a line for each check and ends with 'N passed, M failed'. Standard library only."""
 import datetime
 import fcntl
+import os
 import pathlib
 import re
+import resource
 import signal
 import socket
 import struct
@@ -220,9 +222,14 @@ def links_that_feed():
 
 def no_more_files():
     """Where no file is left an accept is told as failed and tried again, without much work, and links go on."""
-    with Staying(4, RLIMIT_NOFILE=6) as node:
-        with node.link() as first, node.link() as second:
-            pairs = [("the first", first.ask(say.front()), ("front", 0, 0)), ("the second", second.ask(say.front()), ("front", 0, 0))]
+    with Staying(4, "--workers", "1") as node:
+        with node.link() as first:
+            pairs = [("the first", first.ask(say.front()), ("front", 0, 0))]
+            # room for one more from now on, which the node couldn't know at its start
+            files = len(os.listdir(f"/proc/{node.child.pid}/fd")) + 1
+            resource.prlimit(node.child.pid, resource.RLIMIT_NOFILE, (files, files))
+            second = node.link()
+            pairs.append(("the second", second.ask(say.front()), ("front", 0, 0)))
             with node.link() as third:
                 third.send(say.front())
                 before = node.processor()
@@ -407,10 +414,11 @@ def bad_node_lines():
     """Options of `hkrep node` whose values are none: each is told by its name."""
     pairs = []
     for words, part in ((["--from", "node"], "invalid value 'node' for '--from <NODE>'"), (["--from", "7420,node:0"], "invalid value 'node:0' for '--from <NODE>'"),
-                        (["--from", ",".join(map(str, range(1, 10)))], "invalid value '9' for '--from <NODE>'"), (["--parts-bytes", "0%"], "invalid value '0%' for '--parts-bytes <BYTES>'"),
-                        (["--parts-bytes", "101%"], "for '--parts-bytes <BYTES>'"), (["--parts-bytes", "x"], "for '--parts-bytes <BYTES>'"), (["--address", "::1"], "invalid value '::1' for '--address <A>'"),
-                        (["--links", "60", "--read-port", "7421", "--read-links", "5"], "64 together at most"), (["--read-port", "7421"], "--read-links"), (["--guard"], "--guard"),
-                        (["--stay"], "--stay"), (["-q", "-v"], "--verbose"), (["--port", "0"], "--port"), (["--read-seconds", "+1"], "'+1'")):
+                        (["--from", ",".join(map(str, range(1, 10)))], "invalid value '9' for '--from <NODE>'"), (["--parts-bytes", "0%"], "invalid value '0%' for '--link-bytes <BYTES>'"),
+                        (["--link-bytes", "101%"], "for '--link-bytes <BYTES>'"), (["--link-bytes", "x"], "for '--link-bytes <BYTES>'"), (["--address", "::g"], "invalid value '::g' for '--address <A>'"),
+                        (["--links", "65536"], "'65536' for '--links <N>'"), (["--read-port", "7421"], "--read-links"), (["--guard"], "--guard"),
+                        (["--stay"], "--stay"), (["-q", "-v"], "--verbose"), (["--read-seconds", "+1"], "'+1'"), (["--write-seconds", "86401"], "'86401' for '--write-seconds <N>'"),
+                        (["--workers", "0"], "'0' for '--workers <N>'"), (["--workers", "32"], "'32' for '--workers <N>'"), (["--read-socket"], "--read-socket")):
         done = subprocess.run([str(PROGRAM), "node", "--log", "7", "--streams", "1", *words], capture_output=True, text=True, timeout=30, check=False)
         pairs.append((" ".join(words), (done.returncode, done.stdout, part in done.stderr), (2, "", True)))
     report("bad options of a node", differ(pairs))
@@ -427,7 +435,7 @@ def what_a_node_opens():
                  ("a conflict", link.ask(say.join_this(facts=[(1, 5, 1, (9, b"B"), None)]))[:2], ("refused", 23)), ("a row after it", link.ask(GET), ROW)]
     options = ["--no-guard", "--parts-bytes", 1_000, "--read-port", read, "--read-links", 20, "--feed-port", feed, "--feed-links", 3]
     with OwnNode(*options) as node, node.link() as link, node.link(read) as reading, node.link(feed) as feeding:
-        pairs += [("what it opened", node.opened, f"listening on 127.0.0.1:{node.port} for 41 connections, feeding on 127.0.0.1:{feed} for 3, reading on 127.0.0.1:{read} for 20; "
+        pairs += [("what it opened", node.opened, f"listening on 127.0.0.1:{node.port} for 64 connections, feeding on 127.0.0.1:{feed} for 3, reading on 127.0.0.1:{read} for 20; "
                    "log 7, streams 1, not guarded, chunks 1000 bytes"),
                   ("a feeder", feeding.ask(PUSHED), ("done", 2)), ("a reader", reading.ask(GET), ROW),
                   ("a conflict without a guard", link.ask(say.join_this(facts=[(1, 5, 1, (9, b"B"), None)]))[:2], ("refused", 23)), ("the damage", link.ask(GET)[:2], ("refused", 41))]
@@ -445,16 +453,14 @@ def addresses_and_bad_lines():
             pass
     plain = ["--log", "7", "--streams", "1", "--port", "47999", "--links"]
     for words in (["1", "--address", "127.0.0.1"], ["1", "--read-seconds", "3"], ["1", "--read-port", "47998", "--read-links", "1"],
-                  ["1", "--stay", "--read-port", "47998"], ["1", "--stay", "--read-links", "1"], ["64", "--stay", "--read-port", "47998", "--read-links", "1"],
+                  ["1", "--stay", "--read-port", "47998"], ["1", "--stay", "--read-links", "1"], ["65"], ["65536", "--stay"], ["1", "--workers", "1"], ["1", "--write-seconds", "3"], ["1", "--idle-seconds", "3"],
                   ["1", "--stay", "--address", "node"], ["1", "--stay", "--read-seconds", "86401"], ["1", "--stay", "--read-seconds", "+1"], ["1", "-q"], ["1", "-v"], ["1", "--stay", "-q", "-v"],
-                  ["1", "--report-changes", "2"], ["1", "--stay", "--report-changes", "0"], ["64", "--stay", "--report-changes", "2"],
-                  ["63", "--stay", "--report-changes", "2", "--read-port", "47998", "--read-links", "1"], ["1", "--feed-port", "47998", "--feed-links", "1"],
-                  ["1", "--stay", "--feed-port", "47998"], ["1", "--stay", "--feed-links", "1"], ["63", "--stay", "--feed-port", "47997", "--feed-links", "1", "--read-port", "47998", "--read-links", "1"]):
+                  ["1", "--report-changes", "2"], ["1", "--stay", "--report-changes", "0"], ["1", "--feed-port", "47998", "--feed-links", "1"],
+                  ["1", "--stay", "--feed-port", "47998"], ["1", "--stay", "--feed-links", "1"], ["1", "--stay", "--read-port", "47998", "--read-links", "65536"]):
         done = subprocess.run([str(PROGRAM), "serve", *plain, *words], capture_output=True, text=True, timeout=30, check=False)
         pairs.append((" ".join(words), (done.returncode, done.stdout), (2, "")))
-    together = "error: --links, --feed-links and --read-links are 64 together at most, and --report-changes takes one of these"
-    for words, told in ((["1", "--address", "localhost"], "'localhost' for '--address <A>': an IPv4 address is wanted"), (["1", "--address", "::1"], "'::1' for '--address <A>': an IPv4 address"),
-                        (["40", "--read-port", "47998", "--read-links", "40"], together), (["64", "--report-changes", "2"], together)):
+    for words, told in ((["1", "--address", "localhost"], "'localhost' for '--address <A>': an IP address is wanted"), (["1", "--address", "[::1]"], "'[::1]' for '--address <A>': an IP address"),
+                        (["65536"], "'65536' for '--links <N>'")):
         done = subprocess.run([str(PROGRAM), "serve", *plain, *words, "--stay"], capture_output=True, text=True, timeout=30, check=False)
         pairs.append((f"what is told of {words}", (done.returncode, done.stdout, told in done.stderr), (2, "", True)))
     with socket.create_server(("127.0.0.1", 0)) as taken:

@@ -273,6 +273,9 @@ class Link:
             data.append(piece)
         return b"".join(data)
 
+    def fileno(self):
+        return self.socket.fileno()
+
     def rest(self):
         """The rest of the next reply's frame, and None where the link ended between replies."""
         first = self.socket.recv(1)

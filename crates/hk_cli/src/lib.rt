@@ -3,6 +3,7 @@
 
 mod head;
 mod link_reporter;
+mod listening;
 mod memory;
 mod moment;
 mod notice;

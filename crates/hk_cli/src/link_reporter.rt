@@ -10,12 +10,10 @@ use hk_node::{NodeName, ReaderSeat};
 use hk_session::Ended;
 use hk_types::Time;
 use std::alloc::{AllocError, Global};
+use std::collections::HashMap;
 use std::io::Write;
 use std::net::SocketAddr;
 use std::rt::Clock;
-
-/// How many connection slots a node has at most.
-const MOST_PLACES: usize = 64;
 
 /// A seat that reads the node's front, and after how many changes it does.
 #[derive(Drop)]
@@ -50,6 +48,13 @@ impl<J: NodeName> Reports<J> {
     }
 }
 
+/// A connection's number, and the address of its peer, where it has one.
+#[derive(Clone, Copy)]
+struct Peer {
+    link: u64,
+    address: Option<SocketAddr>,
+}
+
 /// Prints what happens to the connections of a node. They are counted from 1 as they open.
 #[derive(Drop)]
 pub(crate) struct LinkReporter<'o, 'a, W: Write, E: Write, J: NodeName, C: Clock> {
@@ -60,10 +65,8 @@ pub(crate) struct LinkReporter<'o, 'a, W: Write, E: Write, J: NodeName, C: Clock
     reports: Option<Reports<J>>,
     /// How many connections opened.
     count: u64,
-    /// The number of the last connection of each slot.
-    links: [u64; MOST_PLACES],
-    /// The address of its peer.
-    peers: [Option<SocketAddr>; MOST_PLACES],
+    /// The number of the connection at each place, and the address of its peer, where it has one.
+    links: HashMap<usize, Peer>,
 }
 
 impl<'o, 'a, W: Write, E: Write, J: NodeName, C: Clock> LinkReporter<'o, 'a, W, E, J, C> {
@@ -81,34 +84,33 @@ impl<'o, 'a, W: Write, E: Write, J: NodeName, C: Clock> LinkReporter<'o, 'a, W, 
             level,
             reports,
             count: 0,
-            links: [0; MOST_PLACES],
-            peers: [None; MOST_PLACES],
+            links: HashMap::new(alloc),
         }
     }
 
-    /// The number of the last connection of a slot.
+    /// The number of the connection at a place, 0 where memory ran out for it.
     fn link(&self, place: usize) -> u64 {
-        match self.links.get(place) {
-            Some(link) => *link,
+        match self.links.get(&place) {
+            Some(peer) => peer.link,
             None => 0,
         }
     }
 
-    /// Counts a connection of a slot, from this address.
-    fn count(&mut self, place: usize, address: SocketAddr) {
+    /// Counts a connection at a place, from this address.
+    fn count(&mut self, place: usize, address: Option<SocketAddr>) {
         self.count = self.count.saturating_add(1);
-        if let Some(link) = self.links.get_mut(place) {
-            *link = self.count;
-        }
-        if let Some(peer) = self.peers.get_mut(place) {
-            *peer = Some(address);
-        }
+        let link = self.count;
+        // Where memory runs out its lines have no number.
+        let _kept = self.links.insert(place, Peer { link, address });
     }
 
-    /// Begins a line of the last connection of a slot, or of no connection.
+    /// Begins a line of the connection at a place, or of no connection.
     fn begin(&mut self, grade: Grade, place: Option<usize>) {
         let peer = match place {
-            Some(place) => self.peers.get(place).copied().flatten(),
+            Some(place) => match self.links.get(&place) {
+                Some(peer) => peer.address,
+                None => None,
+            },
             None => None,
         };
         if let Ok(head) = self.heads.head(grade, peer) {
@@ -173,14 +175,14 @@ impl<'o, 'a, W: Write, E: Write, J: NodeName, C: Clock> LinkReporter<'o, 'a, W, 
         self.output.tell_known(Place::Whole, what, number);
     }
 
-    /// Prints what failed of the last connection of a slot, in words.
+    /// Prints what failed of the connection at a place, in words.
     fn tell_link(&mut self, place: usize, what: &str, number: u8) {
         let link = self.link(place);
         self.begin(Grade::Warn, Some(place));
         self.output.tell_known(Place::Link(link), what, number);
     }
 
-    /// Prints how the connection of a slot ended; where lines have the time, in words alone.
+    /// Prints how the connection at a place ended; where lines have the time, in words alone.
     fn ended(&mut self, place: usize, ended: Ended) {
         let number = ended.number();
         if number == 0 {
@@ -188,6 +190,7 @@ impl<'o, 'a, W: Write, E: Write, J: NodeName, C: Clock> LinkReporter<'o, 'a, W, 
         } else {
             self.tell_link(place, "ended", number);
         }
+        self.links.remove(&place);
         if !self.heads.are_dated() {
             // Where the line can't be printed the node serves on.
             let _printed = self.output.print(&Notice::Ended(number));

@@ -2,6 +2,7 @@
 
 ghost use Rattle.std.specs.Prelude.{◌≡◌, ◌≤◌, IfOk};
 
+use crate::listening::port_of;
 use crate::notice::Notice;
 use hk_cli_calls::IS_PROVED;
 use hk_cli_commands::{Output, Stop};
@@ -105,7 +106,7 @@ fn serve_list<
 {
     let listener = listener_of(rt, Ipv4Addr::LOCALHOST, port, output)?;
     let (node, seats) = start::<J, &R>(rt, alloc, list, links.count())?;
-    output.print(&Notice::Listening(port))?;
+    output.print(&Notice::Listening(port_of(&listener, port)))?;
     output.flush()?;
     let budget = budget_of(alloc, parts_bytes)?;
     let served = serve_links(rt, alloc, &listener, &node, budget.as_ref(), seats);

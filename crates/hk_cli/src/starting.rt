@@ -80,7 +80,7 @@ impl<'n, 'b, J: NodeName, N: Wait + Drop, R: Threads + Wait + Sync> Own<'n, 'b, 
         host: NodeHost<'n, J, N, R>,
         budget: &'b PartsBudget,
     ) -> Own<'n, 'b, J, N, R> {
-        let kept = LinkState::new(alloc, budget, Vec::new(alloc));
+        let kept = LinkState::new(alloc, budget);
         Own {
             host: PartsHost::new(host, kept),
             last: None,
@@ -90,7 +90,7 @@ impl<'n, 'b, J: NodeName, N: Wait + Drop, R: Threads + Wait + Sync> Own<'n, 'b, 
 
     /// The host again. What came of a snapshot that wasn't taken is dropped.
     fn into_host(self) -> NodeHost<'n, J, N, R> {
-        let (host, _no_pins) = self.host.end();
+        let (host, _kept) = self.host.end();
         host
     }
 

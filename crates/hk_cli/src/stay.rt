@@ -5,37 +5,53 @@ ghost use Rattle.std.specs.Thread.{IsSend, IsSync};
 
 use crate::head::Heads;
 use crate::link_reporter::{LinkReporter, Reports};
+use crate::listening::{many_listener_of, most_files, port_of, socket_listener};
 use crate::memory::share_of_memory;
 use crate::notice::Notice;
-use crate::serve::{budget_of, listener_of, new_list, stop_of, tell_unproved};
+use crate::serve::{new_list, stop_of, tell_unproved};
 use crate::starting::begin;
 use crate::texts::{Backlog, MOST_WAITING, Target, Text, TextWriter, write_texts};
 use crossbeam_channel::{Sender, bounded};
 use hk_cli_calls::{Level, OtherPort, OutputForm, PartsLimit, Stay};
 use hk_cli_commands::{Output, Stop};
-use hk_net::{Door, NetFault, PartsBudget, serve_forever};
+use hk_net::{Door, Limits, NetFault, PartsBudget, serve_forever};
 use hk_node::{NewList, Node, NodeName, ReaderSeat, start};
 use hk_types::{Config, Refusal};
 use std::alloc::{AllocError, Global};
 use std::fs::Files;
 use std::io::Write;
 use std::marker::Brand;
-use std::net::{Ipv4Addr, Net, TcpListener, TcpStream};
+use std::net::{Net, SocketAddr, TcpListener, TcpStream};
+use std::os::unix::net::UnixListener;
 use std::rt::Clock;
 use std::sync::Wait;
 use std::thread;
 use std::thread::Threads;
 
+/// How many workers give short answers at most: a node has 64 seats, one for each worker, and one to report its front.
+const MOST_WORKERS: usize = 31;
+
+/// How many files a node has open beside its connections: at most for its standard streams and listeners, and for each worker for short
+/// answers and that for long ones.
+const OTHER_FILES: u64 = 12;
+
+const FILES_A_WORKER: u64 = 4;
+
+/// How many bytes all connections keep at most where messages of version 1 alone are answered.
+const PLAIN_BYTES: u64 = 1_073_741_824;
+
 /// The line where a node that needs data can have none.
 const NO_DATA: &str =
     "stopped: there is no data, and --need-data is given; see the lines above, or start it without\n";
 
-/// The listeners of the further ports, of those that there are.
+/// The listeners of the ports and sockets, of those that there are.
 #[derive(Drop)]
 struct Listeners {
     open: TcpListener,
     feeding: Option<TcpListener>,
     reading: Option<TcpListener>,
+    socket: Option<UnixListener>,
+    read_socket: Option<UnixListener>,
 }
 
 /// The listener of a further port, if there is one.
@@ -48,103 +64,109 @@ fn other_listener<R: Net<Listener = TcpListener, Stream = TcpStream>, W: Write, 
     match other {
         None => Ok(None),
         Some(other) => {
-            let listener = listener_of(rt, stay.address, other.port, output)?;
+            let listener = many_listener_of(rt, stay.address, other.port, output)?;
             Ok(Some(listener))
         }
     }
 }
 
-/// The listeners of all ports.
-fn listeners_of<R: Net<Listener = TcpListener, Stream = TcpStream>, W: Write, E: Write>(
+/// The listeners of all ports and sockets.
+fn listeners_of<R, W: Write, E: Write>(
     rt: &R,
     stay: &Stay<'_>,
     output: &mut Output<'_, W, E>,
-) -> Result<Listeners, Stop> {
-    let open = listener_of(rt, stay.address, stay.port, output)?;
+) -> Result<Listeners, Stop>
+where
+    R: Net<Listener = TcpListener, Stream = TcpStream> + Files + Alloc<A = Global>,
+{
+    let open = many_listener_of(rt, stay.address, stay.port, output)?;
     let feeding = other_listener(rt, stay, stay.feeding, output)?;
     let reading = other_listener(rt, stay, stay.reading, output)?;
+    let socket = socket_listener(rt, stay.socket, output)?;
+    let read_socket = socket_listener(rt, stay.read_socket, output)?;
     Ok(Listeners {
         open,
         feeding,
         reading,
+        socket,
+        read_socket,
     })
-}
-
-/// A door as its node has them: in which messages its connections are answered, and whether changes are reported.
-fn furnished<'d, J: NodeName, N: Wait + Drop>(
-    door: Door<'d, J, N>,
-    stay: &Stay<'_>,
-    budget: Option<&'d PartsBudget>,
-) -> Door<'d, J, N> {
-    let door = match budget {
-        Some(budget) => door.with_parts(budget),
-        None => door,
-    };
-    if stay.report_changes > 0 || stay.level == Level::Changes {
-        door.with_changes()
-    } else {
-        door
-    }
 }
 
 /// How many connections a further port serves at once.
 fn links_of(other: Option<OtherPort>) -> usize
-    ensures { result ≤ 64 }
+    ensures { result ≤ 65535 }
 {
     match other {
-        Some(other) => other.links.count(),
+        Some(other) => usize::from(other.links),
         None => 0,
     }
 }
 
-/// The door of the connection slot with this number: the first slots belong to the open door, the next ones to that for feeders, the
-/// others to the reading one.
-fn door_of<'d, J: NodeName, N: Wait + Drop>(
-    node: &'d Node<J, N>,
-    stay: &Stay<'_>,
-    listeners: &'d Listeners,
-    place: usize,
-) -> Door<'d, J, N> {
-    let seconds = stay.read_seconds;
-    if place < stay.links.count() {
-        return Door::open(&listeners.open, node, seconds);
-    }
-    if place < stay.links.count() + links_of(stay.feeding) {
-        if let Some(listener) = &listeners.feeding {
-            return Door::feeding(listener, node, seconds);
-        }
-    }
-    match &listeners.reading {
-        Some(listener) => Door::reading(listener, seconds),
-        // No slot has this number: there are as many seats as connections.
-        None => Door::open(&listeners.open, node, seconds),
-    }
-}
-
-/// A connection slot for each seat.
-fn places_of<'d, J: NodeName, N: Wait + Drop>(
+/// The doors of a node: that of its port, and those of the further ports and sockets that there are.
+fn doors_of<'d, J: NodeName, N: Wait + Drop>(
     alloc: Global,
     node: &'d Node<J, N>,
-    seats: Vec<ReaderSeat<J>>,
     stay: &Stay<'_>,
     listeners: &'d Listeners,
-    budget: Option<&'d PartsBudget>,
-) -> Result<Vec<(Door<'d, J, N>, ReaderSeat<J>)>, Refusal> {
-    let mut places = Vec::with_capacity(alloc, seats.len())?;
-    for seat in seats {
-        let door = door_of(node, stay, listeners, places.len());
-        places.push((furnished(door, stay, budget), seat))?;
+) -> Result<Vec<Door<'d, J, N>>, AllocError> {
+    let links = usize::from(stay.links);
+    let mut doors = Vec::new(alloc);
+    doors.push(Door::open(&listeners.open, node, links))?;
+    if let Some(listener) = &listeners.feeding {
+        doors.push(Door::feeding(listener, node, links_of(stay.feeding)))?;
     }
-    Ok(places)
+    if let Some(listener) = &listeners.reading {
+        doors.push(Door::reading(listener, links_of(stay.reading)))?;
+    }
+    if let Some(listener) = &listeners.socket {
+        doors.push(Door::open_unix(listener, node, links))?;
+    }
+    if let Some(listener) = &listeners.read_socket {
+        doors.push(Door::reading_unix(listener, links))?;
+    }
+    Ok(doors)
 }
 
-/// How many seats a node has: one for each of its connections, of all kinds, and one to report its front; at most as many as it may have.
-fn seats_wanted(stay: &Stay<'_>) -> usize
+/// The same doors, of whose connections each change is reported too where that is asked for.
+fn furnished<'d, J: NodeName, N: Wait + Drop>(
+    alloc: Global,
+    doors: Vec<Door<'d, J, N>>,
+    stay: &Stay<'_>,
+) -> Result<Vec<Door<'d, J, N>>, AllocError> {
+    if stay.report_changes == 0 && stay.level != Level::Changes {
+        return Ok(doors);
+    }
+    let mut told = Vec::with_capacity(alloc, doors.len())?;
+    for door in doors {
+        told.push(door.with_changes())?;
+    }
+    Ok(told)
+}
+
+/// How many workers give short answers, and as many long ones: so many as are asked for, or as there are processors.
+fn workers_of<R: Threads>(rt: &R, stay: &Stay<'_>) -> usize
+    ensures { (0 < result) × (result ≤ 31) }
+{
+    let asked = usize::from(stay.workers);
+    let count = if asked > 0 {
+        asked
+    } else {
+        match thread::available_parallelism(rt) {
+            Ok(count) => count.get(),
+            Err(_error) => 1,
+        }
+    };
+    count.clamp(1, MOST_WORKERS)
+}
+
+/// How many seats a node has: one for each of its workers, and one to report its front.
+fn seats_wanted(workers: usize, stay: &Stay<'_>) -> usize
+    requires { (0 < workers) × (workers ≤ 31) }
     ensures { (0 < result) × (result ≤ 64) }
 {
     let reporter = if stay.report_changes == 0 { 0 } else { 1 };
-    let others = links_of(stay.feeding) + links_of(stay.reading);
-    (stay.links.count() + others + reporter).min(64)
+    workers + workers + reporter
 }
 
 /// Prints that connections can be opened, and to which ports: a line for each.
@@ -170,8 +192,9 @@ fn put_other(
     out: &mut String,
 ) -> Result<(), AllocError> {
     if let Some(other) = other {
-        let (address, port, links) = (stay.address, other.port, other.links.count());
-        write!(out, ", {what} on {address}:{port} for {links}")?;
+        let address = SocketAddr::from((stay.address, other.port));
+        let links = other.links;
+        write!(out, ", {what} on {address} for {links}")?;
     }
     Ok(())
 }
@@ -184,8 +207,9 @@ fn tell_opened<W: Write, E: Write>(
     parts_bytes: Option<u64>,
     output: &mut Output<'_, W, E>,
 ) -> Result<(), Stop> {
-    let (address, port, links) = (stay.address, stay.port, stay.links.count());
-    let mut line = format!(in alloc; "listening on {address}:{port} for {links} connections")?;
+    let address = SocketAddr::from((stay.address, stay.port));
+    let links = stay.links;
+    let mut line = format!(in alloc; "listening on {address} for {links} connections")?;
     put_other(stay, "feeding", stay.feeding, &mut line)?;
     put_other(stay, "reading", stay.reading, &mut line)?;
     let (log, streams) = (config.log(), config.streams());
@@ -200,6 +224,41 @@ fn tell_opened<W: Write, E: Write>(
         "; log {log}, streams {streams}, {guarded}, chunks {bytes} bytes"
     )?;
     output.send(line.as_bytes())
+}
+
+/// How many connections are served at most, at all ports and sockets together.
+fn links_wanted(stay: &Stay<'_>) -> u64 {
+    let read_sockets = usize::from(stay.read_socket.is_some());
+    let sockets = usize::from(stay.socket.is_some()).saturating_add(read_sockets);
+    let first = usize::from(stay.links).saturating_mul(sockets.saturating_add(1));
+    let others = links_of(stay.feeding).saturating_add(links_of(stay.reading));
+    first.saturating_add(others) as u64
+}
+
+/// Says so where the process may open too few files for its connections: further ones wait then.
+fn tell_files<W: Write, E: Write>(
+    alloc: Global,
+    workers: usize,
+    stay: &Stay<'_>,
+    output: &mut Output<'_, W, E>,
+) -> Result<(), AllocError>
+    requires { workers ≤ 31 }
+{
+    let others = OTHER_FILES + FILES_A_WORKER * workers as u64;
+    let links = links_wanted(stay);
+    let wanted = links.saturating_add(others);
+    match most_files() {
+        Some(most) if most < wanted => {
+            let served = most.saturating_sub(others);
+            let line = format!(in alloc;
+                "{served} of {links} connections are served at once: the program may open {most} files; \
+raise that by 'ulimit -n', or by LimitNOFILE= of its unit\n"
+            )?;
+            output.note(line.as_str());
+            Ok(())
+        }
+        _enough => Ok(()),
+    }
 }
 
 /// What stands before a node's lines: nothing, or as `node` the time and more.
@@ -218,18 +277,31 @@ fn parts_bytes_of<R: Files + Alloc<A = Global>>(rt: &R, stay: &Stay<'_>) -> Opti
     }
 }
 
+/// For how long connections may do nothing.
+fn limits_of(stay: &Stay<'_>) -> Limits {
+    Limits {
+        read_seconds: stay.read_seconds,
+        write_seconds: stay.write_seconds,
+        idle_seconds: stay.idle_seconds,
+    }
+}
+
 /// Serves connections without an end, and hands on what is printed of them.
-fn serve_places<
+fn serve_doors<
     'd,
     J: NodeName + Send + Sync,
     N: Wait + Drop + Send + Sync,
-    R: Threads + Wait + Clock + Sync,
+    R: Net<Listener = TcpListener, Stream = TcpStream> + Threads + Wait + Clock + Sync,
 >(
     rt: &'d R,
     alloc: Global,
     heads: Heads<'d, R>,
     level: Level,
-    places: Vec<(Door<'d, J, N>, ReaderSeat<J>)>,
+    doors: Vec<Door<'d, J, N>>,
+    seats: Vec<ReaderSeat<J>>,
+    budget: &'d PartsBudget,
+    in_both: bool,
+    limits: Limits,
     reports: Option<Reports<J>>,
     texts: Sender<Text>,
     backlog: &Backlog,
@@ -238,7 +310,16 @@ fn serve_places<
     let mut words = TextWriter::new(rt, alloc, Target::Words, &texts, backlog);
     let mut output = Output::new(alloc, &mut lines, &mut words);
     let mut reporter = LinkReporter::new(alloc, &mut output, &heads, level, reports);
-    serve_forever(rt, alloc, places, &mut reporter)
+    serve_forever(
+        rt,
+        alloc,
+        doors,
+        seats,
+        budget,
+        in_both,
+        limits,
+        &mut reporter,
+    )
 }
 
 /// The same, and writes what is printed: this thread alone waits where nobody reads it.
@@ -246,18 +327,21 @@ fn serve_writing<
     'd,
     J: NodeName + Send + Sync,
     N: Wait + Drop + Send + Sync,
-    R: Threads + Wait + Clock + Sync,
+    R: Net<Listener = TcpListener, Stream = TcpStream> + Threads + Wait + Clock + Sync,
     W: Write,
     E: Write,
 >(
     rt: &'d R,
     alloc: Global,
     stay: &Stay<'_>,
-    places: Vec<(Door<'d, J, N>, ReaderSeat<J>)>,
+    doors: Vec<Door<'d, J, N>>,
+    seats: Vec<ReaderSeat<J>>,
+    budget: &'d PartsBudget,
     reports: Option<Reports<J>>,
     output: &mut Output<'_, W, E>,
 ) -> Result<(), NetFault> {
     let (level, heads) = (stay.level, heads_of(rt, alloc, stay));
+    let (in_both, limits) = (stay.parts.is_some(), limits_of(stay));
     let told_heads = heads_of(rt, alloc, stay);
     let backlog = Backlog::new();
     let backlog = &backlog;
@@ -270,7 +354,10 @@ fn serve_writing<
         {
             let serving = scope
                 .spawn(move || {
-                    serve_places(rt, alloc, heads, level, places, reports, texts, backlog)
+                    serve_doors(
+                        rt, alloc, heads, level, doors, seats, budget, in_both, limits, reports,
+                        texts, backlog,
+                    )
                 })
                 .ok();
             match serving {
@@ -343,21 +430,28 @@ where
     requires { list ≡ (J.book, J.kind) }
 {
     let alloc = rt.alloc();
-    let (node, mut seats) = start::<J, &R>(rt, alloc, list, seats_wanted(stay))?;
+    let workers = workers_of(rt, stay);
+    let (node, mut seats) = start::<J, &R>(rt, alloc, list, seats_wanted(workers, stay))?;
     take_start(rt, &node, stay, &mut seats, output)?;
     let listeners = listeners_of(rt, stay, output)?;
+    let stay = &Stay {
+        port: port_of(&listeners.open, stay.port),
+        ..*stay
+    };
+    tell_files(alloc, workers, stay, output)?;
+    output.flush()?;
     let reports = match stay.report_changes {
         0 => None,
         every => seats.pop().map(|seat| Reports::new(seat, every)),
     };
     let parts_bytes = parts_bytes_of(rt, stay);
-    let budget = budget_of(alloc, parts_bytes)?;
-    let places = places_of(alloc, &node, seats, stay, &listeners, budget.as_ref())?;
+    let budget = PartsBudget::new(alloc, parts_bytes.unwrap_or(PLAIN_BYTES))?;
+    let doors = furnished(alloc, doors_of(alloc, &node, stay, &listeners)?, stay)?;
     tell_start(alloc, config, stay, parts_bytes, output)?;
-    serve_writing(rt, alloc, stay, places, reports, output).map_err(stop_of)
+    serve_writing(rt, alloc, stay, doors, seats, &budget, reports, output).map_err(stop_of)
 }
 
-/// Starts a node of a log, and serves connections to it without an end: a slot is free again when its connection ends. As `node` it
+/// Starts a node of a log, and serves connections to it without an end: a place is free again when its connection ends. As `node` it
 /// first takes what a file of `save` has, and then what the first of other nodes that answers has above that; neither needs to be
 /// there, unless it is asked for. Prints `listening` and the port once connections can be opened, `feeding` and `reading` and a further
 /// port where there is one, and `ended` and its number for each connection when it ends; as `node` one line of what it opened, and no other.
@@ -366,9 +460,8 @@ where
 /// `refused 90` where memory ran out for the node or its threads, and no line where those first lines can't be written, or where nothing
 /// was taken that is asked for. Later lines that can't be written are lost, and the node serves on. Each connection that opens and ends,
 /// each change that is refused, and each accept that failed is printed to `errors` in words, as far as the level asks for it, and the
-/// node's front after so many changes; as `node` with the time, how grave it is, and the peer's address. That report uses one of the 64
-/// seats. No connection waits for a line to be written: where 1,024 texts wait, further lines are dropped, and how many is printed
-/// once there is room. Cost: that of `start`, of what is taken, and of `serve_forever`.
+/// node's front after so many changes; as `node` with the time, how grave it is, and the peer's address. No connection waits for a line to
+/// be written: where 1,024 texts wait, further lines are dropped, and how many is printed once there is room. Cost: that of `start`, of what is taken, and of `serve_forever`.
 pub fn run_stay<R, W: Write, E: Write>(
     rt: &R,
     config: Config,

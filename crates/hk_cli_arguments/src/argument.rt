@@ -139,8 +139,17 @@ fn named<'a>(alloc: Global, is: &Description) -> Arg<'a> {
     }
 }
 
+/// The names that an option had in earlier versions, by which it can still be given.
+fn old_names_of(name: &str) -> &'static [&'static str] {
+    match name {
+        "link-bytes" => &["parts-bytes"],
+        _other => &[],
+    }
+}
+
 /// The argument of a description.
 pub(crate) fn argument<'a>(alloc: Global, is: &Description) -> Result<Arg<'a>, AllocError> {
     let arg = named(alloc, is).requires_all(is.need.with)?;
+    let arg = arg.aliases(old_names_of(is.name))?;
     arg.conflicts_with_all(is.need.without)
 }

@@ -7,7 +7,7 @@ use crate::forms::{CommandForm, all_numbers_of, command_named, numbers_of_query,
 use crate::node::start_checked;
 use crate::numbers::{Number, name_of};
 use crate::places::{is_alone, is_decimal, place_checked};
-use crate::stay::stay_checked;
+use crate::stay::serve_checked;
 use clap::error::ErrorKind;
 use clap::{ArgMatches, Command, Error};
 use hk_cli_calls::Call;
@@ -82,7 +82,7 @@ fn words_checked<'a>(form: CommandForm, matches: &ArgMatches<'a>) -> Result<(), 
             None => Ok(()),
         },
         CommandForm::Explain => refusal_checked(matches),
-        CommandForm::Serve => stay_checked(matches),
+        CommandForm::Serve => serve_checked(matches),
         CommandForm::Node => start_checked(matches),
         _other => Ok(()),
     }

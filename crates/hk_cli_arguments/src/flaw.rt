@@ -18,9 +18,9 @@ pub(crate) enum WordFlaw {
     Source,
     /// This one of `--from` of a node names none, or is one too many.
     Sources,
-    /// That of `--parts-bytes` is no number of bytes and no share of the memory.
+    /// That of `--link-bytes` is no number of bytes and no share of the memory.
     Chunks,
-    /// That of `--address` is no IPv4 address.
+    /// That of `--address` is no IP address.
     Listening,
     /// No refusal has this number or name.
     NoRefusal,
@@ -33,7 +33,7 @@ pub(crate) enum Flaw<'a> {
     Word(&'a str, WordFlaw),
     /// A number from which no call can be made.
     Range,
-    /// The connections of all ports are more than there are slots.
+    /// More connections are to be served than threads are started for.
     Slots,
     /// Item frames are asked without a time.
     NoTime,
@@ -58,10 +58,10 @@ fn words_behind(flaw: WordFlaw) -> &'static str {
             " for '--from <NODE>': up to 8 nodes are wanted; a port is 1 to 65535; "
         }
         WordFlaw::Chunks => {
-            " for '--parts-bytes <BYTES>': a number of bytes is wanted, or 1% to 100% of the memory"
+            " for '--link-bytes <BYTES>': a number of bytes is wanted, or 1% to 100% of the memory"
         }
         WordFlaw::Listening => {
-            " for '--address <A>': an IPv4 address is wanted, as 127.0.0.1 or 0.0.0.0"
+            " for '--address <A>': an IP address is wanted, as 127.0.0.1, 0.0.0.0 or ::1"
         }
         WordFlaw::NoRefusal => {
             " for '[NUMBER]': no refusal has this number or name; 'hkrep explain' lists them"
@@ -81,7 +81,7 @@ fn address_behind(flaw: WordFlaw) -> &'static str {
 fn words_of(flaw: Flaw<'_>) -> &'static str {
     match flaw {
         Flaw::Slots => {
-            "--links, --feed-links and --read-links are 64 together at most, and --report-changes takes one of these"
+            "--links is 64 at most where the node doesn't stay: --stay serves up to 65535 at once"
         }
         Flaw::NoTime => {
             "the time is missing: give TIME before the query, or --at TIME behind it"

@@ -309,6 +309,8 @@ fn words_of_serving(form: CommandForm) -> &'static [Word] {
             Word::NeedData,
             Word::NoGuard,
             Word::PartsBytes,
+            Word::Socket,
+            Word::ReadSocket,
             Word::Listening,
             Word::Quiet,
             Word::Verbose,

@@ -1,33 +1,25 @@
 //! The call of `node`.
 
-use crate::calls::{config_of, has_flag, port_of, u16_of, u64_of};
+use crate::calls::{config_of, has_flag, port_of, u16_of};
 use crate::flaw::{Flaw, WordFlaw};
 use crate::places::port_or_place;
-use crate::stay::{address_of, count_of, level_of, other_port, report_changes_of, stay_checked};
+use crate::stay::{
+    address_of, count_of, level_of, other_port, report_changes_of, seconds_of, stay_checked,
+};
 use clap::ArgMatches;
 use hk_cli_calls::{Call, MOST_SOURCES, NodePlace, PartsLimit, Start, Stay};
-use hk_types::Links;
 
 /// The port that is opened by default.
 const PORT: u16 = 7_420;
 
-/// How long a connection may stop inside a frame by default, in seconds.
-const READ_SECONDS: u64 = 30;
+/// For how long a connection may stop inside a frame, or not take a reply, by default, in seconds.
+const SECONDS: u64 = 30;
 
 /// How many hundredths of the memory are kept for messages of version 2 by default.
 const PARTS_PERCENT: u64 = 25;
 
-/// How many connections a node serves at most, of all kinds.
-const MOST_LINKS: u16 = 64;
-
-/// How many connections the first port serves: so many as are asked for, or as the other ports and the report of changes leave.
-fn node_links(matches: &ArgMatches<'_>, report_changes: u64) -> Option<Links> {
-    let others = count_of(matches, "feed-links").saturating_add(count_of(matches, "read-links"));
-    let left = MOST_LINKS
-        .saturating_sub(others)
-        .saturating_sub(u16::from(report_changes > 0));
-    Links::new(u16_of(matches, "links").unwrap_or(left))
-}
+/// How many connections the first port serves by default.
+const LINKS: u16 = 64;
 
 /// What this word limits snapshots in chunks to, where it is a number or a number of hundredths.
 fn limit_named(word: &str) -> Option<PartsLimit> {
@@ -42,7 +34,7 @@ fn limit_named(word: &str) -> Option<PartsLimit> {
 
 /// The limit that is given, or the default.
 fn limit_of(matches: &ArgMatches<'_>) -> Option<PartsLimit> {
-    match matches.get_str("parts-bytes") {
+    match matches.get_str("link-bytes") {
         Some(word) => limit_named(word),
         None => Some(PartsLimit::Percent(PARTS_PERCENT)),
     }
@@ -102,7 +94,7 @@ pub(crate) fn start_checked<'a>(matches: &ArgMatches<'a>) -> Result<(), Flaw<'a>
     if let Some(word) = sources_of(matches).bad {
         return Err(Flaw::Word(word, WordFlaw::Sources));
     }
-    match matches.get_str("parts-bytes") {
+    match matches.get_str("link-bytes") {
         Some(word) if limit_named(word).is_none() => Err(Flaw::Word(word, WordFlaw::Chunks)),
         _limit => stay_checked(matches),
     }
@@ -119,18 +111,23 @@ fn start_of<'a>(matches: &ArgMatches<'a>) -> Start<'a> {
 
 /// The call that `node` makes, where each argument is in its range and they have no flaw.
 pub(crate) fn node_call<'a>(matches: &ArgMatches<'a>) -> Option<Call<'a>> {
-    let report_changes = report_changes_of(matches);
+    let (read_seconds, write_seconds, idle_seconds) = seconds_of(matches, SECONDS);
     let stay = Stay {
         address: address_of(matches)?,
         port: port_of(matches).unwrap_or(PORT),
-        links: node_links(matches, report_changes)?,
+        links: u16_of(matches, "links").unwrap_or(LINKS),
         feeding: other_port(matches, "feed-port", "feed-links"),
         reading: other_port(matches, "read-port", "read-links"),
-        read_seconds: u64_of(matches, "read-seconds").unwrap_or(READ_SECONDS),
+        socket: matches.get_str("socket"),
+        read_socket: matches.get_str("read-socket"),
+        workers: count_of(matches, "workers"),
+        read_seconds,
+        write_seconds,
+        idle_seconds,
         is_guarded: !has_flag(matches, "no-guard"),
         parts: limit_of(matches),
         level: level_of(matches),
-        report_changes,
+        report_changes: report_changes_of(matches),
         start: Some(start_of(matches)),
     };
     Some(Call::Stay(config_of(matches)?, stay))

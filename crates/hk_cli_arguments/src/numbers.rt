@@ -46,6 +46,12 @@ pub(crate) enum Number {
     NodeReadPort,
     ReadLinks,
     NodeReadLinks,
+    Workers,
+    NodeWorkers,
+    WriteSeconds,
+    NodeWriteSeconds,
+    IdleSeconds,
+    NodeIdleSeconds,
 }
 
 /// The name of a number that a node's ports, connections and limits of time have.
@@ -54,7 +60,7 @@ fn name_of_node(number: Number) -> &'static str {
         Number::ConnectSeconds => "connect-seconds",
         Number::ReplySeconds | Number::OrReplySeconds => "reply-seconds",
         Number::Messages | Number::SentMessages => "messages",
-        Number::PartsBytes => "parts-bytes",
+        Number::PartsBytes => "link-bytes",
         Number::ReadSeconds | Number::NodeReadSeconds => "read-seconds",
         Number::ReportChanges | Number::NodeReportChanges => "report-changes",
         Number::FeedPort | Number::NodeFeedPort => "feed-port",
@@ -62,6 +68,9 @@ fn name_of_node(number: Number) -> &'static str {
         Number::ReadPort | Number::NodeReadPort => "read-port",
         Number::ReadLinks | Number::NodeReadLinks => "read-links",
         Number::Links | Number::NodeLinks => "links",
+        Number::Workers | Number::NodeWorkers => "workers",
+        Number::WriteSeconds | Number::NodeWriteSeconds => "write-seconds",
+        Number::IdleSeconds | Number::NodeIdleSeconds => "idle-seconds",
         _port => "port",
     }
 }
@@ -116,20 +125,22 @@ fn value_of(number: Number) -> &'static str {
 /// The help of a number of a node's connections.
 fn help_of_links(number: Number) -> &'static str {
     match number {
-        Number::Links => "How many connections are served, with --stay at once: 1 to 64",
-        Number::NodePort => "The port of 127.0.0.1: 1 to 65535; 7420 where it isn't given",
+        Number::Links =>
+            "How many connections are served, 1 to 64; with --stay at once, 1 to 65535",
+        Number::NodePort =>
+            "The port of 127.0.0.1: 1 to 65535, or 0 for one that is free; 7420 where it isn't given",
         Number::NodeLinks => {
-            "How many connections are served at once: 1 to 64; what other ports leave of 64 where it isn't given"
+            "How many connections are served at once: 1 to 65535; 64 where it isn't given"
         }
         Number::FeedPort | Number::NodeFeedPort =>
             "A further port, whose connections may send items and ask: 1 to 65535",
         Number::FeedLinks | Number::NodeFeedLinks => {
-            "How many connections to that port are served at once: 1 to 63, and 64 with the others"
+            "How many connections to that port are served at once: 1 to 65535"
         }
         Number::ReadPort | Number::NodeReadPort =>
             "A second port, whose connections may only read: 1 to 65535",
         Number::ReadLinks | Number::NodeReadLinks => {
-            "How many read-only connections are served at once: 1 to 63, and 64 with the others"
+            "How many read-only connections are served at once: 1 to 65535"
         }
         Number::ReadSeconds => {
             "End a connection where inside a frame nothing comes for so long: 0 (never) to 86400"
@@ -137,9 +148,26 @@ fn help_of_links(number: Number) -> &'static str {
         Number::NodeReadSeconds => {
             "End a connection where inside a frame nothing comes for so long: 0 (never) to 86400; 30 where it isn't given"
         }
-        _changes => {
-            "Print the front to standard error after each N changes, 1 to 1000000000; uses one of the 64 slots"
+        other => help_of_workers(other),
+    }
+}
+
+/// The help of a number of workers, of limits of time, or of changes.
+fn help_of_workers(number: Number) -> &'static str {
+    match number {
+        Number::Workers | Number::NodeWorkers => {
+            "How many threads give short answers, and as many long ones: 1 to 31; as many as processors where it isn't given"
         }
+        Number::WriteSeconds => {
+            "End a connection that doesn't take its replies for so long: 0 (never) to 86400; 0 where it isn't given"
+        }
+        Number::NodeWriteSeconds => {
+            "End a connection that doesn't take its replies for so long: 0 (never) to 86400; 30 where it isn't given"
+        }
+        Number::IdleSeconds | Number::NodeIdleSeconds => {
+            "End a connection that is silent between two frames for so long: 0 (never) to 86400; 0 where it isn't given"
+        }
+        _changes => { "Print the front to standard error after each N changes, 1 to 1000000000" }
     }
 }
 
@@ -162,7 +190,7 @@ fn help_of_messages(number: Number) -> &'static str {
             "The latest version of requests that is sent: 1 or 2; 1 where it isn't given"
         }
         Number::PartsBytes => {
-            "How many bytes all connections keep for --messages 2 at most; 1073741824 where it isn't given"
+            "How many bytes all connections keep at most, with --messages 2; 1073741824 where it isn't given"
         }
         other => help_of_links(other),
     }
@@ -193,7 +221,7 @@ fn help_of(number: Number) -> &'static str {
         Number::Streams | Number::OrStreams | Number::ServeStreams => {
             "How many streams the log has: 1 to 64"
         }
-        Number::ServePort => "The port of 127.0.0.1: 1 to 65535",
+        Number::ServePort => "The port of 127.0.0.1: 1 to 65535, or 0 for one that is free",
         Number::Port => "The node's port on 127.0.0.1: 1 to 65535",
         Number::Batch => "How many items a batch has: 1 to 65536; 4096 where it isn't given",
         other => help_of_query(other),
@@ -203,12 +231,17 @@ fn help_of(number: Number) -> &'static str {
 fn range_of(number: Number) -> Range {
     match number {
         Number::Streams | Number::OrStreams => Range::Within(1, 64),
-        Number::ServeStreams | Number::Links | Number::NodeLinks => Range::Signed(1, 64),
+        Number::ServeStreams => Range::Signed(1, 64),
+        Number::Links | Number::NodeLinks => Range::Signed(1, 65_535),
         Number::Port | Number::FeedPort | Number::ReadPort | Number::NodeReadPort => Range::Within(
             1, 65_535,
         ),
-        Number::ServePort | Number::NodePort => Range::Signed(1, 65_535),
-        Number::FeedLinks | Number::ReadLinks | Number::NodeReadLinks => Range::Within(1, 63),
+        Number::ServePort | Number::NodePort => Range::Signed(0, 65_535),
+        Number::FeedLinks | Number::NodeFeedLinks => Range::Within(1, 65_535),
+        Number::ReadLinks | Number::NodeReadLinks => Range::Within(1, 65_535),
+        Number::Workers | Number::NodeWorkers => Range::Within(1, 31),
+        Number::WriteSeconds | Number::NodeWriteSeconds => Range::Within(0, 86_400),
+        Number::IdleSeconds | Number::NodeIdleSeconds => Range::Within(0, 86_400),
         Number::Batch => Range::Within(1, 65_536),
         Number::Time | Number::OrTime | Number::At | Number::Horizon => {
             Range::Within(0, 4_611_686_018_427_387_904)
@@ -235,7 +268,8 @@ fn need_of(number: Number) -> Need {
         Number::OrStreams => Need::with(&["log"]),
         Number::PartsBytes => Need::with(&["messages"]),
         Number::Wait => Need::without(&["log"]),
-        Number::ReadSeconds | Number::ReportChanges => Need::with(&["stay"]),
+        Number::ReadSeconds | Number::ReportChanges | Number::Workers => Need::with(&["stay"]),
+        Number::WriteSeconds | Number::IdleSeconds => Need::with(&["stay"]),
         Number::FeedPort => Need::with(&["stay", "feed-links"]),
         Number::FeedLinks => Need::with(&["stay", "feed-port"]),
         Number::ReadPort => Need::with(&["stay", "read-links"]),
@@ -248,6 +282,7 @@ fn need_of(number: Number) -> Need {
         Number::ConnectSeconds | Number::ReplySeconds | Number::OrReplySeconds => Need::never(),
         Number::Messages | Number::SentMessages | Number::NodePort => Need::never(),
         Number::NodeLinks | Number::NodeReadSeconds | Number::NodeReportChanges => Need::never(),
+        Number::NodeWorkers | Number::NodeWriteSeconds | Number::NodeIdleSeconds => Need::never(),
         _always => Need::always(),
     }
 }
@@ -285,6 +320,9 @@ pub(crate) fn node_numbers() -> &'static [Number] {
         Number::NodeReadPort,
         Number::NodeReadLinks,
         Number::NodeReadSeconds,
+        Number::NodeWriteSeconds,
+        Number::NodeIdleSeconds,
+        Number::NodeWorkers,
         Number::NodeReportChanges,
     ]
 }
@@ -305,10 +343,13 @@ pub(crate) fn serve_numbers() -> &'static [Number] {
 pub(crate) fn stay_numbers() -> &'static [Number] {
     &[
         Number::ReadSeconds,
+        Number::WriteSeconds,
+        Number::IdleSeconds,
         Number::FeedPort,
         Number::FeedLinks,
         Number::ReadPort,
         Number::ReadLinks,
+        Number::Workers,
         Number::ReportChanges,
     ]
 }
@@ -327,6 +368,9 @@ pub(crate) fn serve_words() -> &'static [Number] {
         Number::ReadPort,
         Number::ReadLinks,
         Number::ReadSeconds,
+        Number::WriteSeconds,
+        Number::IdleSeconds,
+        Number::Workers,
         Number::ReportChanges,
     ]
 }

@@ -5,10 +5,7 @@ use crate::flaw::{Flaw, WordFlaw};
 use clap::ArgMatches;
 use hk_cli_calls::{Call, Level, OtherPort, PartsLimit, Stay};
 use hk_types::Links;
-use std::net::Ipv4Addr;
-
-/// How many connections a node serves at once at most, of all kinds.
-const MOST_LINKS: u16 = 64;
+use std::net::{IpAddr, Ipv4Addr};
 
 /// How many bytes all connections keep for messages of version 2 by default.
 const PARTS_BYTES: u64 = 1_073_741_824;
@@ -21,7 +18,7 @@ pub(crate) fn count_of(matches: &ArgMatches<'_>, name: &str) -> u16 {
 /// A further port by these options, if there is one.
 pub(crate) fn other_port(matches: &ArgMatches<'_>, port: &str, links: &str) -> Option<OtherPort> {
     let port = u16_of(matches, port)?;
-    let links = Links::new(count_of(matches, links))?;
+    let links = count_of(matches, links);
     Some(OtherPort { port, links })
 }
 
@@ -30,24 +27,32 @@ pub(crate) fn report_changes_of(matches: &ArgMatches<'_>) -> u64 {
     u64_of(matches, "report-changes").unwrap_or(0)
 }
 
-/// Whether the seats suffice for the connections of all ports and for the report of changes.
-fn is_seated(matches: &ArgMatches<'_>) -> bool {
-    let others = count_of(matches, "feed-links").saturating_add(count_of(matches, "read-links"));
-    let telling = u16::from(report_changes_of(matches) > 0);
-    count_of(matches, "links")
-        .saturating_add(others)
-        .saturating_add(telling)
-        <= MOST_LINKS
+/// Whether `serve` can serve so many connections: a node that doesn't stay has a thread for each.
+pub(crate) fn serve_checked<'a>(matches: &ArgMatches<'a>) -> Result<(), Flaw<'a>> {
+    if has_flag(matches, "stay") || links_of(matches).is_some() {
+        stay_checked(matches)
+    } else {
+        Err(Flaw::Slots)
+    }
 }
 
-fn address_named(word: &str) -> Option<Ipv4Addr> {
-    word.parse::<Ipv4Addr>().ok()
+/// The limits of time of a long-running node, in seconds: inside a frame, for a reply that isn't taken, between two frames.
+pub(crate) fn seconds_of(matches: &ArgMatches<'_>, default: u64) -> (u64, u64, u64) {
+    (
+        u64_of(matches, "read-seconds").unwrap_or(default),
+        u64_of(matches, "write-seconds").unwrap_or(default),
+        u64_of(matches, "idle-seconds").unwrap_or(0),
+    )
+}
+
+fn address_named(word: &str) -> Option<IpAddr> {
+    word.parse::<IpAddr>().ok()
 }
 
 /// The address that is named, or that of this machine alone.
-pub(crate) fn address_of(matches: &ArgMatches<'_>) -> Option<Ipv4Addr> {
+pub(crate) fn address_of(matches: &ArgMatches<'_>) -> Option<IpAddr> {
     match matches.get_str("address") {
-        None => Some(Ipv4Addr::LOCALHOST),
+        None => Some(IpAddr::V4(Ipv4Addr::LOCALHOST)),
         Some(word) => address_named(word),
     }
 }
@@ -58,8 +63,7 @@ pub(crate) fn stay_checked<'a>(matches: &ArgMatches<'a>) -> Result<(), Flaw<'a>>
         Some(word) if address_named(word).is_none() => {
             Err(Flaw::Word(word, WordFlaw::Listening))
         }
-        _address if is_seated(matches) => Ok(()),
-        _address => Err(Flaw::Slots),
+        _address => Ok(()),
     }
 }
 
@@ -79,7 +83,7 @@ fn parts_bytes_of(matches: &ArgMatches<'_>) -> Option<u64> {
     if !is_second(matches) {
         return None;
     }
-    Some(u64_of(matches, "parts-bytes").unwrap_or(PARTS_BYTES))
+    Some(u64_of(matches, "link-bytes").unwrap_or(PARTS_BYTES))
 }
 
 /// How many connections are served.
@@ -90,13 +94,19 @@ fn links_of(matches: &ArgMatches<'_>) -> Option<Links> {
 /// The call that `serve --stay` makes, where each argument is in its range and they have no flaw.
 fn stay_call<'a>(matches: &ArgMatches<'a>) -> Option<Call<'a>> {
     let config = config_of(matches)?;
+    let (read_seconds, write_seconds, idle_seconds) = seconds_of(matches, 0);
     let stay = Stay {
         address: address_of(matches)?,
         port: port_of(matches)?,
-        links: links_of(matches)?,
+        links: u16_of(matches, "links")?,
         feeding: other_port(matches, "feed-port", "feed-links"),
         reading: other_port(matches, "read-port", "read-links"),
-        read_seconds: u64_of(matches, "read-seconds").unwrap_or(0),
+        socket: None,
+        read_socket: None,
+        workers: count_of(matches, "workers"),
+        read_seconds,
+        write_seconds,
+        idle_seconds,
         is_guarded: has_flag(matches, "guard"),
         parts: parts_bytes_of(matches).map(PartsLimit::Bytes),
         level: level_of(matches),

@@ -215,7 +215,7 @@ With --guard a change that conflicts with the node is refused 23 and changes not
 fails and has to be rebuilt; docs/SECURITY.md has what it doesn't refuse.
 
 With --messages 2 it answers messages of version 2 too: full snapshots in chunks, pages of rows, the latest answer, \
-and pins, which end with their connection. What the connections keep for these is at most --parts-bytes, \
+and pins, which end with their connection. What the connections keep for these is at most --link-bytes, \
 all together; what would be more is refused 46.
 
 With --stay it serves connections without an end, --links of them at once: a further one waits until one ends. \

@@ -23,6 +23,8 @@ pub(crate) enum Word {
     NeedData,
     NoGuard,
     PartsBytes,
+    Socket,
+    ReadSocket,
     Listening,
     Quiet,
     Verbose,
@@ -38,7 +40,9 @@ fn name_of_serving(word: Word) -> &'static str {
         Word::Load => "load",
         Word::NeedData => "need-data",
         Word::NoGuard => "no-guard",
-        Word::PartsBytes => "parts-bytes",
+        Word::PartsBytes => "link-bytes",
+        Word::Socket => "socket",
+        Word::ReadSocket => "read-socket",
         _listening => "address",
     }
 }
@@ -67,6 +71,7 @@ fn value_of(word: Word) -> &'static str {
         Word::Refusal => "NUMBER",
         Word::Sources => "NODE",
         Word::PartsBytes => "BYTES",
+        Word::Socket | Word::ReadSocket => "PATH",
         Word::Listening | Word::StayListening => "A",
         _flag => "",
     }
@@ -83,9 +88,13 @@ fn help_of_node(word: Word) -> &'static str {
         }
         Word::NeedData => "End with status 1 where there is neither a file nor another node",
         Word::NoGuard => "Don't test changes first: a conflict makes the node fail",
+        Word::Socket => {
+            "Also serve as many connections over a Unix domain socket of this path; a file there that nobody listens on is replaced"
+        }
+        Word::ReadSocket => "The same for connections that may only read",
         _parts => {
-            "How many bytes all connections keep for snapshots in chunks at most: N, or P% of the memory; 25% where it \
-isn't given, and at least 268435456"
+            "How many bytes all connections keep at most, in snapshots in chunks and between socket and session: N, or P% of the \
+memory; 25% where it isn't given, and at least 268435456"
         }
     }
 }
@@ -136,6 +145,7 @@ fn shape_of(word: Word) -> Shape {
         Word::Refusal => Shape::Position,
         Word::Address | Word::Items | Word::Out | Word::From => Shape::Option,
         Word::Load | Word::PartsBytes | Word::Listening | Word::StayListening => Shape::Option,
+        Word::Socket | Word::ReadSocket => Shape::Option,
         Word::Sources => Shape::Options,
         Word::Quiet | Word::StayQuiet => Shape::Letter('q'),
         Word::Verbose | Word::StayVerbose => Shape::Letter('v'),

@@ -1,8 +1,7 @@
 //! How a long-running node serves its connections.
 
 use crate::node::NodePlace;
-use hk_types::Links;
-use std::net::Ipv4Addr;
+use std::net::IpAddr;
 
 /// What a long-running node reports of its connections.
 #[derive(Clone, Copy, Debug, PartialEq, Eq)]
@@ -21,10 +20,10 @@ pub struct OtherPort {
     /// The port.
     pub port: u16,
     /// How many connections to it are served at once.
-    pub links: Links,
+    pub links: u16,
 }
 
-/// How many bytes all connections keep at most for messages of version 2.
+/// How many bytes all connections keep at most.
 #[derive(Clone, Copy)]
 pub enum PartsLimit {
     /// So many.
@@ -51,20 +50,31 @@ pub struct Start<'a> {
 #[derive(Clone, Copy)]
 pub struct Stay<'a> {
     /// The address that its ports are opened at.
-    pub address: Ipv4Addr,
+    pub address: IpAddr,
     /// The port for connections of every kind.
     pub port: u16,
     /// How many connections to that port are served at once.
-    pub links: Links,
+    pub links: u16,
     /// The port for connections that send items and ask, if there is one.
     pub feeding: Option<OtherPort>,
     /// The port for read-only connections, if there is one.
     pub reading: Option<OtherPort>,
-    /// How many seconds a read inside a frame is waited for; 0 is no limit.
+    /// The path of a Unix domain socket for connections of every kind, if there is one: as many as the port serves.
+    pub socket: Option<&'a str>,
+    /// The path of one for read-only connections, if there is one.
+    pub read_socket: Option<&'a str>,
+    /// How many threads give short answers, and as many long ones; 0: as many as there are processors.
+    pub workers: u16,
+    /// For how many seconds inside a frame nothing may come; 0 is no limit.
     pub read_seconds: u64,
+    /// For how many seconds a reply may stand that isn't taken; 0 is no limit.
+    pub write_seconds: u64,
+    /// For how many seconds a connection may be silent between two frames; 0 is no limit.
+    pub idle_seconds: u64,
     /// Whether each change is tested before it is added, so that none makes the node fail.
     pub is_guarded: bool,
-    /// How many bytes all connections keep at most for messages of version 2; without it those of version 1 alone are answered.
+    /// How many bytes all connections keep at most, where messages of both versions are answered; without it those of version 1
+    /// alone are.
     pub parts: Option<PartsLimit>,
     /// What is reported of connections.
     pub level: Level,

@@ -13,27 +13,27 @@ pub const EVENTS: usize = 1_024;
 /// What happens to the connections of a long-running node.
 #[derive(Clone, Copy, Debug, PartialEq, Eq)]
 pub enum LinkEvent {
-    /// A connection was opened from this address.
-    Opened(SocketAddr),
+    /// A connection was opened, from this address where its socket has one.
+    Opened(Option<SocketAddr>),
     /// A change that came over a connection was refused with this number.
     Refused(u8),
     /// A change that came over a connection took effect; the node's list of operations that ends with it has so many.
     Changed(u64),
-    /// A connection ended so, and its seat waits for the next one.
+    /// A connection ended so, and its slot is free for the next one.
     Ended(Ended),
     /// A connection could not be accepted, as where no descriptor is left; it is tried again.
     NotAccepted,
-    /// The thread of a seat could not be started, so that the node has one slot less.
+    /// A thread could not be started, so that the node has one worker less, or accepts at one port less.
     NotStarted,
 }
 
 /// Receives what happens to connections, one event after the other.
 pub trait Watch {
-    /// Receives an event of a slot; the first slot is 0.
+    /// Receives an event of the connection at a place; the first place is 0. A place is given again once its connection has ended.
     fn told(&mut self, place: usize, event: LinkEvent);
 }
 
-/// Reports the events of the connections of one slot.
+/// Reports the events of connections, of one at a time.
 #[derive(Drop)]
 pub struct Teller<'a> {
     place: usize,
@@ -45,20 +45,24 @@ pub struct Teller<'a> {
 }
 
 impl<'a> Teller<'a> {
-    /// A further teller on the way of these events.
+    /// A further teller on the way of these events, at the first place.
     pub fn new(
-        place: usize,
-        tells_changes: bool,
         events: &Sender<(usize, LinkEvent)>,
         bell: &'a Bell,
     ) -> Result<Teller<'a>, AllocError> {
         let events = events.clone()?;
         Ok(Teller {
-            place,
-            tells_changes,
+            place: 0,
+            tells_changes: false,
             events,
             bell,
         })
+    }
+
+    /// Turns to the connection at a place, of which changes that take effect are reported too where that is wanted.
+    pub fn turn_to(&mut self, place: usize, tells_changes: bool) {
+        self.place = place;
+        self.tells_changes = tells_changes;
     }
 
     /// What wakes those who wait until a time is readable.

@@ -149,8 +149,8 @@ impl<'a, J: NodeName, N: Wait + Drop, R: Threads + Wait + Sync> NodeHost<'a, J, 
         let marks = self.reads.marks();
         if let Some(teller) = self.teller {
             match marks {
-                Ok(front) => teller.bell().ring(self.rt, front.readable),
-                Err(Refusal::Damaged) => teller.bell().ring_for_good(self.rt),
+                Ok(front) => teller.bell().ring(front.readable),
+                Err(Refusal::Damaged) => teller.bell().ring_for_good(),
                 Err(_no_memory) => {}
             }
         }
@@ -164,7 +164,7 @@ impl<'a, J: NodeName, N: Wait + Drop, R: Threads + Wait + Sync> NodeHost<'a, J, 
         tell_refused(self.rt, self.teller, why);
         if let (Some(teller), Refusal::Conflict, false) = (self.teller, why, is_guarded) {
             if self.node.hold_refusal(self.rt, Time::zero()) == Refusal::Damaged {
-                teller.bell().ring_for_good(self.rt);
+                teller.bell().ring_for_good();
             }
         }
     }

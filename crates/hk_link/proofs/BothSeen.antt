@@ -11,7 +11,7 @@ use Rattle.hk_link.specs.LinkStates.{LinkValue}
 use Rattle.hk_link.specs.NodeSides.{Sided}
 use Rattle.hk_link.proofs.Seen.{same_prefix, then_prefix}
 
-both_seen : {S : Type 0} (side : Sided S) (may : S → Request → Reply → S → Type 0) (old new : LinkValue S) (qs : List Request) (rs : List Reply)
+pub both_seen : {S : Type 0} (side : Sided S) (may : S → Request → Reply → S → Type 0) (old new : LinkValue S) (qs : List Request) (rs : List Reply)
     → Answers (MayReplyBoth side may) old qs rs new → IsPrefix (side.list old.inner) (side.list new.inner)
 both_seen side may old new [] [] same = same_prefix (side.list old.inner) (side.list new.inner) (ap (λ (l : LinkValue _). side.list l.inner) same)
 both_seen side may old new (q ∷ qs) (r ∷ rs) h = then_prefix (side.list old.inner) (side.list h.0.inner) (side.list new.inner) h.1.0 (both_seen side may h.0 new qs rs h.2)

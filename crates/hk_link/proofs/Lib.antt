@@ -4,3 +4,5 @@ mod LettingGo
 mod LinkHolds
 pub mod Seen
 pub mod BothSeen
+mod SharedHosts
+mod Marks

@@ -1,5 +1,5 @@
 -- Holds of a link.
-use Rattle.std.proofs.Common.{◌≡◌, ℕ, ◌-◌, ◌<◌, ◌≤◌, set, List, [], ◌∷◌, ◌++◌, length, take, nat_lt, true, None, Err, inr, refl, Option, Result, sym, ap, subst, ◌∙◌, length-append, arith}
+use Rattle.std.proofs.Common.{◌≡◌, ℕ, ◌-◌, ◌<◌, ◌≤◌, set, List, [], ◌∷◌, ◌++◌, length, take, nat_lt, true, None, Err, inl, inr, refl, Option, Result, sym, ap, subst, ◌∙◌, length-append, arith}
 use Rattle.std.proofs.Math.Seq.{take-append_seam}
 use Rattle.std.proofs.lemmas.Grind.{take-set_at}
 use Rattle.std.proofs.lemmas.List.{length-set, take_all}
@@ -24,7 +24,7 @@ hold_asked may_hold l room holds time reply new pushed asked =
 -- there was no memory for a place, and the node says why it gives none
 pub hold_unheld : {S : Type 0} (may_hold : S → ℕ → Result Hold (Option Hold × Refusal) → S → Type 0) (l : LinkValue S) (inner : S) (time : ℕ) (why : Refusal)
     → nat_lt (length l.holds) most_holds ≡ true → may_hold l.inner time (Err (None, why)) inner → IsHeld may_hold l time (Refused why) (record l { inner = inner })
-hold_unheld may_hold l inner time why room held = inr (room, (Err (None, why), held, refl, refl))
+hold_unheld may_hold l inner time why room held = inr (room, inl (Err (None, why), held, refl, refl))
 
 -- the last one is another
 pub last_set : (slice items : List Hold) (len count : ℕ) (hold : Hold) → slice ≡ items → length slice ≡ len → count ≡ length slice → 0 < len

@@ -14,7 +14,7 @@ pub then_prefix : {A : Type 0} (xs ys zs : List A) → IsPrefix xs ys → IsPref
 then_prefix xs ys zs p q = (p.0 ++ q.0, sym (append_assoc xs p.0 q.0) ∙ (ap (λ w. w ++ q.0) p.1 ∙ q.1))
 
 -- where each reply leaves a list that begins with the one before, a session does
-goes_seen : {S : Type 0} (side : Sided S) (may : S → Request → Reply → S → Type 0) → GoesOn side may → (old new : S) (qs : List Request) (rs : List Reply) → Answers may old qs rs new → IsPrefix (side.list old) (side.list new)
+pub goes_seen : {S : Type 0} (side : Sided S) (may : S → Request → Reply → S → Type 0) → GoesOn side may → (old new : S) (qs : List Request) (rs : List Reply) → Answers may old qs rs new → IsPrefix (side.list old) (side.list new)
 goes_seen side may goes old new [] [] same = same_prefix (side.list old) (side.list new) (ap side.list same)
 goes_seen side may goes old new (q ∷ qs) (r ∷ rs) h = then_prefix (side.list old) (side.list h.0) (side.list new) (goes old q r h.0 h.1) (goes_seen side may goes h.0 new qs rs h.2)
 goes_seen side may goes old new [] (r ∷ rs) h = absurd h

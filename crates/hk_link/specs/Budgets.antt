@@ -1,16 +1,20 @@
--- A budget that connections share: what is left of it, and what each room has.
+-- What connections share: how many bytes and pins are left of it, and what each room has.
 use Rattle.std.specs.Prelude.{◌≡◌, ℕ, ◌+◌, ◌≤◌, ◌==◌, MatchBool, List, [], ◌∷◌, sum, refl}
 use Rattle.std.specs.Coded.{Coded, coded_ℕ, coded×, code_by}
 use Rattle.atomic_table.specs.Table.{Me, Step}
 use Rattle.atomic_table.specs.Seated.{TableId, table_id_coded}
 
--- the limit, and the table whose one word is what is left
-pub record BudgetValue : Type 0 where
+-- the limit of one stock, and the table whose one word is what is left
+pub record StockValue : Type 0 where
   pub most : ℕ
   pub table : TableId
 
-abbrev pub budget_code : Coded BudgetValue
-budget_code = code_by (ℕ × TableId) (coded× coded_ℕ table_id_coded) (λ b. (b.most, b.table)) (λ p. record { most = p.0; table = p.1 }) (λ _. refl)
+abbrev pub stock_code : Coded StockValue
+stock_code = code_by (ℕ × TableId) (coded× coded_ℕ table_id_coded) (λ b. (b.most, b.table)) (λ p. record { most = p.0; table = p.1 }) (λ _. refl)
+
+-- how many holds all links have at most
+abbrev pub most_pins : ℕ
+most_pins = 65536
 
 -- at each moment what is left and what all rooms have make the limit
 pub record AddsUp (most : ℕ) (words rooms : List ℕ) : Type 0 where

@@ -26,6 +26,7 @@ use Rattle.hk_oplog.specs.NodeContent.{NodeContent}
 use Rattle.hk_oplog.specs.Replay.{is_legal, replay}
 use Rattle.hk_oplog.specs.Replies.{node_front, node_latest, node_page, node_streams}
 use Rattle.hk_link.specs.LinkStates.{LinkValue, OutgoingValue, more_step, whole_step, held_by, is_other_hold}
+use Rattle.hk_link.specs.Budgets.{most_pins}
 use Rattle.hk_link.specs.NodeSides.{Sided, cut_of}
 
 -- what the node of a host for version 1 holds, by the list that its seat knows
@@ -173,21 +174,21 @@ AsksHold may_hold old time reply new =
 abbrev pub AsksHoldInPlace : {S : Type 0} → (S → ℕ → Result Hold (Option Hold × Refusal) → S → Type 0) → LinkValue S → ℕ → ReplyValue → LinkValue S → Type 0
 AsksHoldInPlace may_hold old time reply new = AsksHold may_hold (record old { holds = take (length old.holds - 1) old.holds }) time reply new
 
--- memory is not what a link lacks whose list of holds is full
-abbrev pub full_or : Refusal → Refusal
-full_or refusals.Memory = refusals.LinkFull most_holds
-full_or why = why
+-- memory is not what a link lacks where there are as many holds as there may be
+abbrev pub full_or : ℕ → Refusal → Refusal
+full_or most refusals.Memory = refusals.LinkFull most
+full_or most why = why
 
--- a hold is refused so where the link has no room for one more: as the node refuses it, or else since the link is full
-abbrev pub IsFull : {S : Type 0} → (S → ℕ → Result Hold (Option Hold × Refusal) → S → Type 0) → LinkValue S → ℕ → ReplyValue → LinkValue S → Type 0
-IsFull may_hold old time reply new =
-    (why : Refusal) × may_hold old.inner time (Err (None, why)) new.inner × (reply ≡ Refused (full_or why)) × (new ≡ record old { inner = new.inner })
+-- a hold is refused so where so many are there and may be: as the node refuses it, or else since there are so many
+abbrev pub IsFull : {S : Type 0} → ℕ → (S → ℕ → Result Hold (Option Hold × Refusal) → S → Type 0) → LinkValue S → ℕ → ReplyValue → LinkValue S → Type 0
+IsFull most may_hold old time reply new =
+    (why : Refusal) × may_hold old.inner time (Err (None, why)) new.inner × (reply ≡ Refused (full_or most why)) × (new ≡ record old { inner = new.inner })
 
--- a link has so many holds at most: one more is not made
+-- a link has so many holds at most, and all links together: one more is not made
 abbrev pub IsHeld : {S : Type 0} → (S → ℕ → Result Hold (Option Hold × Refusal) → S → Type 0) → LinkValue S → ℕ → ReplyValue → LinkValue S → Type 0
 IsHeld may_hold old time reply new =
-    ((nat_lt (length old.holds) most_holds ≡ false) × IsFull may_hold old time reply new)
-    ⊎ ((nat_lt (length old.holds) most_holds ≡ true) × AsksHold may_hold old time reply new)
+    ((nat_lt (length old.holds) most_holds ≡ false) × IsFull most_holds may_hold old time reply new)
+    ⊎ ((nat_lt (length old.holds) most_holds ≡ true) × (AsksHold may_hold old time reply new ⊎ IsFull most_pins may_hold old time reply new))
 
 -- the reply to a release that came out so, and the holds of the link then: one whose release waits is gone too
 abbrev pub release_told : List Hold → ℕ → Result ℕ (Option Hold × Refusal) → ReplyValue × List Hold

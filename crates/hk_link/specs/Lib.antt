@@ -3,3 +3,4 @@ pub mod LinkStates
 pub mod LaterReplying
 pub mod GivenWhole
 pub mod Budgets
+pub mod Sharing

@@ -137,6 +137,10 @@ held_by number (h ∷ holds) = if h.reader == number then Some h else held_by nu
 abbrev pub is_other_hold : ℕ → Hold → Bool
 is_other_hold number h = not (h.reader == number)
 
+-- the same with a place behind the others, for a hold at this time
+abbrev pub with_place : LinkStateValue → ℕ → LinkStateValue
+with_place kept time = record kept { holds = kept.holds ++ (record { reader = 0; at = time }) ∷ [] }
+
 -- the link of a host for version 1 that keeps this
 abbrev pub link_of : {S : Type 0} → S → LinkStateValue → LinkValue S
 link_of inner kept = record { inner = inner; most = kept.most; giving = kept.giving; came = kept.came; holds = kept.holds }

@@ -57,7 +57,7 @@ impl<'a> IncomingParts<'a> {
     {
         IncomingParts {
             facts: Assembly::new(alloc),
-            room: Room::none(budget),
+            room: Room::none(&budget.bytes),
         }
     }
 

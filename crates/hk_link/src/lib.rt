@@ -12,9 +12,11 @@ mod node_side;
 mod outgoing_transfer;
 mod parts_budget;
 mod parts_host;
+mod sharing;
 
 pub use link_state::LinkState;
 pub use node_side::NodeSide;
 pub use outgoing_transfer::given_law;
 pub use parts_budget::{PartsBudget, budget_law};
 pub use parts_host::PartsHost;
+pub use sharing::{marks_law, sharing_law};

@@ -1,6 +1,6 @@
 //! The pins of a connection.
 
-ghost use Rattle.std.specs.Prelude.{◌≡◌, ◌<◌, ◌-◌, ◌++◌, ◌∷◌, [], take, vec_len};
+ghost use Rattle.std.specs.Prelude.{◌≡◌, ◌<◌, ◌≤◌, ◌-◌, ◌++◌, ◌∷◌, [], take, vec_len};
 ghost use mathlib.Core.List.{IsPrefix};
 ghost use Rattle.hk_link.specs.LaterReplying.{AreLetGo, IsLetGo, next_place, placed};
 ghost use Rattle.hk_link.specs.LinkStates.{held_by};
@@ -71,6 +71,7 @@ fn keep(holds: &mut Vec<Hold>, back: Option<Hold>, place: usize) -> usize
 /// Asks for the release of each of these pins, one after the other, and returns those that are still active. It takes no memory.
 pub(crate) fn release_each<H: NodeSide>(inner: &mut H, holds: Vec<Hold>) -> Vec<Hold>
     ensures asked { AreLetGo H.side.may_release inner.old holds.items inner.new result.items }
+    ensures few { vec_len result ≤ vec_len holds }
     ensures seen { IsPrefix (H.side.list inner.old) (H.side.list inner.new) }
 {
     let mut left = holds;

@@ -1,12 +1,14 @@
 //! What a connection keeps beside its seat.
 
-ghost use Rattle.std.specs.Prelude.{◌≡◌, ◌<◌, ◌-◌, ◌++◌, ◌∷◌, [], Ok, OnOk, OnErr, filter, length, take};
+ghost use Rattle.std.specs.Prelude.{◌≡◌, ◌<◌, ◌-◌, ◌++◌, ◌∷◌, [], Ok, IfOk, MatchBool, OnErr, filter, length, take};
+ghost use mathlib.Core.List.{IsPrefix};
 ghost use Rattle.hk_wire.specs.LaterReplies.{reply_seen};
-ghost use Rattle.hk_link.specs.LaterReplying.{TellsCome, TellsFirst, TellsMore};
-ghost use Rattle.hk_link.specs.LinkStates.{fresh_state, held_by, is_other_hold, part_room};
+ghost use Rattle.hk_link.specs.LaterReplying.{AreLetGo, TellsCome, TellsFirst, TellsMore};
+ghost use Rattle.hk_link.specs.LinkStates.{fresh_state, held_by, is_other_hold, part_room, with_place};
 
 use crate::incoming_parts::IncomingParts;
-use crate::link_holds::{hold_of, set_last};
+use crate::link_holds::{hold_of, release_each, set_last};
+use crate::node_side::NodeSide;
 use crate::outgoing_transfer::OutgoingTransfer;
 use crate::parts_budget::{PartsBudget, Room};
 use hk_fragment::{Assembly, Fragment};
@@ -29,7 +31,7 @@ const MOST_HEAD: u64 = 268_431_256;
 const BESIDE: u64 = 64;
 
 /// What a connection keeps beside its seat and its node: the fragment that it sends in chunks, the chunks that came, and its pins.
-/// For what it sends and for what came it reserves room of the node's budget, and returns the room when it drops them.
+/// For what it sends, for what came and for each pin it reserves room of the node's budget, and returns the room when it drops them.
 #[derive(Drop)]
 pub struct LinkState<'a> {
     alloc: Global,
@@ -37,9 +39,13 @@ pub struct LinkState<'a> {
     giving: Option<OutgoingTransfer<'a>>,
     came: IncomingParts<'a>,
     holds: Vec<Hold>,
+    pins: Room<'a>,
+    /// For what is between its socket and its session.
+    buffers: Room<'a>,
 }
 
 impl<'a> Model for LinkState<'a> {
+    ghost use Rattle.std.specs.Prelude.{◌≡◌, length};
     ghost use Rattle.hk_link.specs.LinkStates.{LinkStateValue, link_state_code};
     ghost use Rattle.hk_oplog.specs.contracts.op.Hold as hold;
 
@@ -47,7 +53,9 @@ impl<'a> Model for LinkState<'a> {
 
     ghost coded = { link_state_code hold.the_row.coded };
 
-    ghost view = { λ l. record { most = l.budget.now.most; giving = l.giving; came = l.came; holds = l.holds.items } };
+    ghost view = { λ l. record { most = l.budget.now; giving = l.giving; came = l.came; holds = l.holds.items } };
+
+    ghost invariant = { λ l. l.pins ≡ length l.holds.items };
 }
 
 /// How many bytes a chunk of this fragment may have where so many are asked for, so that its head has room beside the last one;
@@ -63,24 +71,63 @@ fn room_of_part(fragment: &Fragment, most: u32) -> Option<u64>
 }
 
 impl<'a> LinkState<'a> {
-    /// Nothing is sent, nothing came, and these pins, which a connection before it left. It takes no memory.
-    pub fn new(alloc: Global, budget: &'a PartsBudget, holds: Vec<Hold>) -> LinkState<'a>
-        ensures { result ≡ fresh_state budget.now.most holds.items }
+    /// Nothing is sent, nothing came, and there are no pins. It takes no memory.
+    pub fn new(alloc: Global, budget: &'a PartsBudget) -> LinkState<'a>
+        ensures { result ≡ fresh_state budget.now [] }
     {
         LinkState {
             alloc,
             budget,
             giving: None,
             came: IncomingParts::new(alloc, budget),
-            holds,
+            holds: Vec::new(alloc),
+            pins: Room::none(&budget.pins),
+            buffers: Room::none(&budget.bytes),
         }
     }
 
-    /// The pins, and nothing else: the room that was reserved for the rest is returned.
-    pub fn into_holds(self) -> Vec<Hold>
-        ensures { result.items ≡ self.entry.holds }
+    /// Reserves room of the budget for so many bytes that are between the connection's socket and its session, of a frame that isn't
+    /// complete and of replies that aren't written, in place of what was reserved for such bytes before. Returns false where the budget
+    /// has no room for them, and reserves then what it had.
+    pub fn keep_bytes(&mut self, bytes: u64) -> bool
+        ensures { self.new ≡ self.old }
     {
-        self.holds
+        let had = self.buffers.count();
+        if bytes > had {
+            return self.buffers.grow(bytes - had);
+        }
+        self.buffers.shrink(had - bytes);
+        true
+    }
+
+    /// Asks for the release of each pin, one after the other, and of no other, and keeps just those that are still active. What is
+    /// sent and what came is dropped.
+    pub(crate) fn release_all<H: NodeSide>(self, inner: &mut H) -> LinkState<'a>
+        ensures asked { AreLetGo H.side.may_release inner.old self.entry.holds inner.new result.holds }
+        ensures seen { IsPrefix (H.side.list inner.old) (H.side.list inner.new) }
+        ensures fresh { result ≡ fresh_state self.entry.most result.holds }
+    {
+        let LinkState {
+            alloc,
+            budget,
+            giving: _,
+            came: _,
+            holds,
+            mut pins,
+            buffers,
+        } = self;
+        let count = holds.len();
+        let holds = release_each(inner, holds);
+        pins.shrink((count - holds.len()) as u64);
+        LinkState {
+            alloc,
+            budget,
+            giving: None,
+            came: IncomingParts::new(alloc, budget),
+            holds,
+            pins,
+            buffers,
+        }
     }
 
     /// Drops what is sent.
@@ -151,23 +198,31 @@ impl<'a> LinkState<'a> {
         replace(&mut self.came, IncomingParts::new(self.alloc, self.budget)).into_parts()
     }
 
-    /// How many pins the connection has.
-    pub(crate) fn hold_count(&self) -> usize
+    /// How many pins the connection has. Cost: O(1).
+    pub fn hold_count(&self) -> usize
         ensures { result ≡ length self.now.holds }
     {
         self.holds.len()
     }
 
-    /// Makes an entry for a pin behind the others, with number 0.
-    pub(crate) fn make_place(&mut self, time: Time) -> Result<(), AllocError>
-        ensures ok { OnOk result (self.new ≡ record self.old { holds = self.old.holds ++ (record { reader = 0; at = time }) ∷ [] }) }
+    /// Makes an entry for a pin behind the others, with number 0, where all connections together may have one more, and returns
+    /// whether they may.
+    pub(crate) fn make_place(&mut self, time: Time) -> Result<bool, AllocError>
+        ensures ok { IfOk result (λ made. MatchBool made (self.new ≡ with_place self.old time) (self.new ≡ self.old)) }
         ensures kept { OnErr result (self.new ≡ self.old) }
     {
-        self.holds.push(Hold {
+        if !self.pins.grow(1) {
+            return Ok(false);
+        }
+        let made = self.holds.push(Hold {
             reader: 0,
             at: time,
-        })?;
-        Ok(())
+        });
+        if made.is_err() {
+            self.pins.shrink(1);
+            return Err(AllocError);
+        }
+        Ok(true)
     }
 
     /// Puts a pin into the last entry.
@@ -184,6 +239,7 @@ impl<'a> LinkState<'a> {
         ensures { self.new ≡ record self.old { holds = take (length self.old.holds - 1) self.old.holds } }
     {
         let _free = self.holds.pop();
+        self.pins.shrink(1);
     }
 
     /// The pin of this number, if the connection has it.
@@ -197,6 +253,8 @@ impl<'a> LinkState<'a> {
     pub(crate) fn forget(&mut self, number: u64)
         ensures { self.new ≡ record self.old { holds = filter (is_other_hold number) self.old.holds } }
     {
+        let count = self.holds.len();
         self.holds.retain(|hold| !(hold.reader == number));
+        self.pins.shrink((count - self.holds.len()) as u64);
     }
 }

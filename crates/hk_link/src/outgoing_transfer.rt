@@ -21,7 +21,7 @@ fn room_for<'a>(facts: &[(VersionKey, Version)], budget: &'a PartsBudget) -> Opt
     ensures { IfSome result (λ room. room ≡ weight facts.now) }
 {
     let bytes = weight_of(facts)?;
-    let mut room = Room::none(budget);
+    let mut room = Room::none(&budget.bytes);
     if !room.grow(bytes) {
         return None;
     }

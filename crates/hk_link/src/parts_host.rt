@@ -5,12 +5,12 @@ ghost use mathlib.Core.List.{IsPrefix};
 ghost use Rattle.hk_fragment.specs.Heads.{of_facts};
 ghost use Rattle.hk_wire.specs.LaterReplies.{reply_seen};
 ghost use Rattle.hk_oplog.specs.Replay.{is_legal};
-ghost use Rattle.hk_link.specs.LaterReplying.{AreLetGo, AsksHoldInPlace, IsFirstReply, IsHeld, IsLaterReply, IsOrMemory, IsReleased, JoinsMade, KeepsButCame, KeepsButGiving, KeepsCameAndHolds, KeepsOther, LetsGo, TellsCome, TellsMore, TellsWhole, change_seen, content_of, full_or, latest_reply, page_reply, ready_reply, streams_reply};
-ghost use Rattle.hk_link.specs.LinkStates.{link_of};
+ghost use Rattle.hk_link.specs.LaterReplying.{AreLetGo, AsksHoldInPlace, IsFirstReply, IsFull, IsHeld, IsLaterReply, IsOrMemory, IsReleased, JoinsMade, KeepsButCame, KeepsButGiving, KeepsCameAndHolds, KeepsOther, LetsGo, TellsCome, TellsMore, TellsWhole, change_seen, content_of, latest_reply, page_reply, ready_reply, streams_reply};
+ghost use Rattle.hk_link.specs.LinkStates.{fresh_state, link_of};
 
-use crate::link_holds::release_each;
 use crate::link_state::LinkState;
 use crate::node_side::NodeSide;
+use crate::parts_budget::MOST_PINS;
 use hk_log::Version;
 use hk_model::{Front, Query};
 use hk_oplog::Hold;
@@ -70,17 +70,26 @@ impl<'a, H: NodeSide + Drop> PartsHost<'a, H> {
         PartsHost { inner, kept }
     }
 
+    /// The inner host, and what the connection keeps: the opposite of `new`, so that one host can answer for many connections, each
+    /// with its own state, one after the other. It changes nothing, releases no pin and takes no memory.
+    pub fn into_parts(self) -> (H, LinkState<'a>)
+        ensures { self.entry ≡ link_of result.0 result.1 }
+    {
+        (self.inner, self.kept)
+    }
+
     /// Ends the connection: asks for the release of each of its pins, one after the other, and of no other. Returns the
-    /// inner host, and just those of the pins that are still active, since the node handed them back. What it sent and what
-    /// came is dropped, with the room that was reserved for it. It takes no memory beside that of the releases. Cost: that
-    /// of the releases.
-    pub fn end(self) -> (H, Vec<Hold>)
+    /// inner host, and the state with which the next connection begins: it has just those of the pins that are still active,
+    /// since the node handed them back, and nothing else. What this one sent and what came is dropped, with the room that was
+    /// reserved for it. It takes no memory beside that of the releases. Cost: that of the releases.
+    pub fn end(self) -> (H, LinkState<'a>)
         ensures released { AreLetGo H.side.may_release self.entry.inner self.entry.holds
-            result.0 result.1.items }
+            result.0 result.1.holds }
+        ensures fresh { result.1 ≡ fresh_state self.entry.most result.1.holds }
         ensures seen { IsPrefix (H.side.list self.entry.inner) (H.side.list result.0) }
     {
         let mut inner = self.inner;
-        let left = release_each(&mut inner, self.kept.into_holds());
+        let left = self.kept.release_all(&mut inner);
         (inner, left)
     }
 
@@ -171,22 +180,30 @@ impl<'a, H: NodeSide + Drop> PartsHost<'a, H> {
         }
     }
 
-    /// Pins a time, once there is room for the pin in the connection's list. Where there is none the node's own refusal comes first.
+    /// The refusal of a pin for which there is no room: the node's own comes first, and else so many are the most.
+    fn refuse_hold(&mut self, time: Time, most: u64) -> LaterReply
+        ensures seen { IsPrefix (H.side.list self.old.inner) (H.side.list self.new.inner) }
+        ensures told { IsFull most H.side.may_hold self.old time (reply_seen result) self.new }
+        ensures ready { H.ready self.old.inner → H.ready self.new.inner }
+    {
+        LaterReply::Refused(match self.inner.hold_refusal(time) {
+            Refusal::Memory => Refusal::LinkFull { most },
+            why => why,
+        })
+    }
+
+    /// Pins a time, once there is room for the pin among those of all connections and in this connection's list.
     fn hold(&mut self, time: Time) -> LaterReply
         ensures seen { IsPrefix (H.side.list self.old.inner) (H.side.list self.new.inner) }
         ensures told { IsHeld H.side.may_hold self.old time (reply_seen result) self.new }
         ensures ready { H.ready self.old.inner → H.ready self.new.inner }
     {
         if self.kept.hold_count() >= MOST_HOLDS {
-            return LaterReply::Refused(match self.inner.hold_refusal(time) {
-                Refusal::Memory => Refusal::LinkFull {
-                    most: MOST_HOLDS as u64,
-                },
-                why => why,
-            });
+            return self.refuse_hold(time, MOST_HOLDS as u64);
         }
         match self.kept.make_place(time) {
-            Ok(()) => self.ask_hold(time),
+            Ok(true) => self.ask_hold(time),
+            Ok(false) => self.refuse_hold(time, MOST_PINS),
             Err(_) => LaterReply::Refused(self.inner.hold_refusal(time)),
         }
     }

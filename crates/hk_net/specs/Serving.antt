@@ -1,16 +1,14 @@
 -- What a session over a node and a seat of it does, by which the seat's list grows.
 use Rattle.std.specs.Prelude.{ℕ, List, Option}
-use Rattle.std.specs.Global.{Vec}
 use Rattle.hk_session.specs.declared.ended.Ended.{Ended}
 use Rattle.hk_session.specs.Serving.{Serves}
 use Rattle.hk_session.specs.Values.{CountedValue}
-use Rattle.hk_oplog.specs.declared.op.Hold.{Hold}
 use Rattle.hk_oplog.specs.declared.op.NodeKind.{NodeKind}
 use Rattle.hk_oplog.specs.declared.op.Op.{Op}
 use Rattle.hk_wire.specs.declared.request.Request.{Request}
 use Rattle.hk_wire.specs.declared.reply.Reply.{Reply}
 use Rattle.hk_link.specs.LaterReplying.{AreLetGo, MayReplyBoth}
-use Rattle.hk_link.specs.LinkStates.{LinkValue}
+use Rattle.hk_link.specs.LinkStates.{LinkStateValue, LinkValue}
 use Rattle.hk_link.specs.NodeSides.{Sided}
 use Rattle.hk_host.specs.Replying.{MayOnlyRead, MayReply}
 
@@ -31,9 +29,9 @@ ServesNode kind seat remaining reader reader_after contents old new result =
 abbrev pub ServesReader : {R W : Type 0} → List Op → (R → Option (List ℕ)) → CountedValue R → CountedValue R → (W → Option (List ℕ)) → CountedValue W → CountedValue W → Outcome → Type 0
 ServesReader seat remaining reader reader_after contents old new result = Serves 1 MayOnlyRead seat result.1 remaining reader reader_after contents old new result.0
 
--- how the session of a link ended, the host for version 1 after it, and the holds that stand
+-- how the session of a link ended, the host for version 1 after it, and what the next link keeps: the holds that stand
 abbrev pub LinkOutcome : Type 0 → Type 0
-LinkOutcome S = Ended × S × Vec Hold
+LinkOutcome S = Ended × S × LinkStateValue
 
 -- a session of a link in both versions: each of the holds that the link has at its end is then asked to be released, and no other,
 -- and those that the node hands back are left
@@ -41,4 +39,4 @@ abbrev pub Runs : {S R W : Type 0} → (S → Request → Reply → S → Type 0
     → (W → Option (List ℕ)) → CountedValue W → CountedValue W → LinkOutcome S → Type 0
 Runs {S} may side link remaining reader reader_after contents old new result =
     (last : LinkValue S) × Serves 2 (MayReplyBoth side may) link last remaining reader reader_after contents old new result.0
-    × AreLetGo side.may_release last.inner last.holds result.1 result.2.items
+    × AreLetGo side.may_release last.inner last.holds result.1 result.2.holds

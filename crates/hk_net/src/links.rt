@@ -2,12 +2,12 @@
 
 ghost use Rattle.std.specs.Prelude.{◌≡◌, length, IfOk};
 
-use crate::fault::NetFault;
 use crate::sessions::serve_host;
 use hk_host::NodeHost;
-use hk_link::PartsBudget;
+use hk_link::{LinkState, PartsBudget};
 use hk_node::{Node, NodeName, ReaderSeat};
 use hk_session::{AtOnce, Counted, Ended};
+use hk_workers::NetFault;
 use std::alloc::Global;
 use std::io::Read;
 use std::net::{Shutdown, TcpListener, TcpStream};
@@ -27,7 +27,7 @@ const NEXT_WAIT: u64 = 10;
 
 /// Lets the peer read the last reply. A connection that is closed over bytes that nobody read is cut off, and the peer
 /// could lose what was written; so what it still sends is read and dropped, for less than two seconds whatever it sends.
-pub(crate) fn drain(stream: &TcpStream) {
+fn drain(stream: &TcpStream) {
     if stream.shutdown(Shutdown::Write).is_err() {
         return;
     }
@@ -61,11 +61,11 @@ fn serve_link<J: NodeName, N: Wait + Drop, R: Threads + Wait + Sync>(
     let mut reader = Counted::new(&stream);
     let mut writer = Counted::new(&stream);
     let host = NodeHost::new(rt, alloc, node, seat);
-    let (ended, _host, _holds) = serve_host(
+    let kept = budget.map(|budget| LinkState::new(alloc, budget));
+    let (ended, _host, _kept) = serve_host(
         alloc,
-        budget,
+        kept,
         host,
-        Vec::new(alloc),
         &mut AtOnce,
         &mut reader,
         &mut writer,

@@ -4,8 +4,7 @@ ghost use Rattle.std.specs.Prelude.{◌≡◌};
 ghost use mathlib.Core.List.{IsPrefix};
 ghost use Rattle.hk_net.specs.Serving.{Runs, ServesHost};
 
-use hk_link::{LinkState, NodeSide, PartsBudget, PartsHost};
-use hk_node::Hold;
+use hk_link::{LinkState, NodeSide, PartsHost};
 use hk_session::{Counted, Ended, Waiter, serve, serve_waiting};
 use std::alloc::Global;
 use std::io::{Read, Write};
@@ -33,15 +32,15 @@ pub fn serve_plain<H: NodeSide + Drop, I: Read + Drop, O: Write + Drop>(
 
 /// Runs the session of a connection in both versions, as `serve` over a `PartsHost`. However it ends, the release of each pin
 /// that the connection has then is asked for, and of no other, as `PartsHost::end` does. Returns how it ended, the host for
-/// version 1, and just those of the connection's pins that the node handed back, with which the next connection of the slot
-/// begins. Before an Await is answered the waiter waits for it. Cost: that of the session and of the releases.
-pub fn serve_parts<H: NodeSide + Drop, I: Read + Drop, O: Write + Drop, W: Waiter>(
+/// version 1, and the state with which the next connection of the slot begins: with just those of the connection's pins that
+/// the node handed back. Before an Await is answered the waiter waits for it. Cost: that of the session and of the releases.
+pub fn serve_parts<'a, H: NodeSide + Drop, I: Read + Drop, O: Write + Drop, W: Waiter>(
     alloc: Global,
-    link: PartsHost<'_, H>,
+    link: PartsHost<'a, H>,
     waiter: &mut W,
     reader: &mut Counted<I>,
     writer: &mut Counted<O>,
-) -> (Ended, H, Vec<Hold>)
+) -> (Ended, H, LinkState<'a>)
     requires reader { reader.old.faults ≡ 0 }
     requires writer { writer.old.faults ≡ 0 }
     requires ready { H.ready link.inner }
@@ -56,30 +55,30 @@ pub fn serve_parts<H: NodeSide + Drop, I: Read + Drop, O: Write + Drop, W: Waite
     (ended, inner, left)
 }
 
-/// Runs the session of a connection over a host: with a budget in both versions, with these pins, else in version 1. Returns how it
-/// ended, the host, and the pins that are still active.
-pub(crate) fn serve_host<H: NodeSide + Drop, I: Read + Drop, O: Write + Drop, W: Waiter>(
+/// Runs the session of a connection over a host: with what a connection keeps in both versions, else in version 1. Returns how it
+/// ended, the host, and what the next connection begins with.
+pub(crate) fn serve_host<'a, H: NodeSide + Drop, I: Read + Drop, O: Write + Drop, W: Waiter>(
     alloc: Global,
-    budget: Option<&PartsBudget>,
+    kept: Option<LinkState<'a>>,
     host: H,
-    holds: Vec<Hold>,
     waiter: &mut W,
     reader: &mut Counted<I>,
     writer: &mut Counted<O>,
-) -> (Ended, H, Vec<Hold>)
+) -> (Ended, H, Option<LinkState<'a>>)
     requires reader { reader.old.faults ≡ 0 }
     requires writer { writer.old.faults ≡ 0 }
     requires ready { H.ready host }
     ensures seen { IsPrefix (H.side.list host) (H.side.list result.1) }
 {
-    match budget {
-        Some(budget) => {
-            let link = PartsHost::new(host, LinkState::new(alloc, budget, holds));
-            serve_parts(alloc, link, waiter, reader, writer)
+    match kept {
+        Some(kept) => {
+            let link = PartsHost::new(host, kept);
+            let (ended, host, left) = serve_parts(alloc, link, waiter, reader, writer);
+            (ended, host, Some(left))
         }
         None => {
             let (ended, host) = serve_plain(alloc, host, reader, writer);
-            (ended, host, holds)
+            (ended, host, None)
         }
     }
 }

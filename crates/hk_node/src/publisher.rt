@@ -141,12 +141,13 @@ pub(crate) fn copies_of<R: Wait + Drop>(
     Ok(copies)
 }
 
-/// What a change returns. Contracts see it as the list of operations that ends with the change. It is of a published
-/// list: `Publisher::receipt` alone makes one.
+/// What a change returns: the list of operations that ends with it; or what a seat has seen. Contracts see it as that
+/// list. It is of a published list: `Publisher::receipt` makes one of what is published, `ReaderSeat::receipt` of what
+/// its seat saw published, or got a receipt of.
 #[derive(Drop)]
 pub struct Receipt<J: NodeName> {
-    prefix: Prefix,
-    of: PhantomData<J>,
+    pub(crate) prefix: Prefix,
+    pub(crate) of: PhantomData<J>,
 }
 
 impl<J: NodeName> Model for Receipt<J> {
@@ -166,15 +167,6 @@ impl<J: NodeName> Model for Receipt<J> {
 }
 
 impl<J: NodeName> Receipt<J> {
-    pub(crate) fn into_prefix(self) -> Prefix
-        ensures list { result.1 ≡ self }
-        ensures node { result.0 ≡ J.book }
-        ensures kind { kind_of result.1 ≡ J.kind }
-    {
-        let Receipt { prefix, of: _ } = self;
-        prefix
-    }
-
     /// The number of its operations. It takes no memory.
     pub fn ops(&self) -> u64
         ensures length { result ≡ length self.now }

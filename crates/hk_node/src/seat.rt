@@ -369,9 +369,23 @@ impl<J: NodeName> ReaderSeat<J> {
         ensures seen { IsPrefix self.old self.new }
         ensures told { IsPrefix receipt self.new }
     {
-        let told = receipt.into_prefix();
+        let Receipt {
+            prefix: told,
+            of: _,
+        } = receipt;
         if self.prefix.compare(&told) {
             self.prefix = told;
+        }
+    }
+
+    /// A receipt of all that the seat has seen or got a receipt of: another seat of this node to which it is applied shows
+    /// at least that from then on. It takes no memory. Cost: O(1).
+    pub fn receipt(&self) -> Receipt<J>
+        ensures { result ≡ self.now }
+    {
+        Receipt {
+            prefix: self.prefix.again(),
+            of: PhantomData,
         }
     }
 

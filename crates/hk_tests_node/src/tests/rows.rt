@@ -152,7 +152,7 @@ impl<J: NodeName, S: Wait + Drop> Game<J, S> {
             Ok(receipt) => {
                 let ops = receipt.ops();
                 self.seat.learn(receipt);
-                (0, ops, self.seat.seen())
+                (0, ops, self.seat.receipt().ops())
             }
             Err(why) => refused(why),
         }

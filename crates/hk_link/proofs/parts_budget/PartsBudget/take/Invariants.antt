@@ -1,5 +1,0 @@
-use Rattle.std.proofs.Common.{◌≡◌}
-use Rattle.hk_link.proofs.parts_budget.PartsBudget.take.Given as goal
-
-abbrev pub invariant-tries : goal.invariant-tries
-invariant-tries l = (l.room.table_id ≡ l.fn.room.table_id) × (l.room.id ≡ l.fn.room.id) × (l.room.me ≡ l.fn.room.me)

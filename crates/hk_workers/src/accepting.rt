@@ -1,0 +1,82 @@
+//! Accepting connections at a door.
+
+use crate::arrivals::Arrival;
+use crate::doors::Door;
+use crate::places::Places;
+use crate::shop::Shop;
+use hk_host::{LinkEvent, Teller};
+use hk_node::NodeName;
+use hk_session::Ended;
+use std::rt::Clock;
+use std::sync::Wait;
+use std::thread;
+use std::time::Duration;
+
+/// How many milliseconds pass before an accept that failed is tried again.
+const ACCEPT_PAUSE: u64 = 100;
+
+/// Leaves something for a worker, and wakes it. Returns false where there is none, or no memory for it.
+fn leave<'d, J: NodeName, N: Wait + Drop, R: Wait, const LATEST: u8>(
+    rt: &R,
+    shop: &Shop<'d, J, N, LATEST>,
+    worker: Option<usize>,
+    arrival: Arrival<'d, J, LATEST>,
+) -> bool {
+    let Some(worker) = worker else {
+        return false;
+    };
+    let Some(inbox) = shop.inboxes.get(worker) else {
+        return false;
+    };
+    let is_left = inbox.leave(rt, arrival).is_ok();
+    shop.bell.wake(worker);
+    is_left
+}
+
+/// Accepts the next connection of a door at a free place, and leaves it for a worker.
+fn accept_next<J: NodeName, N: Wait + Drop, R: Wait + Clock, const LATEST: u8>(
+    rt: &R,
+    shop: &Shop<'_, J, N, LATEST>,
+    number: usize,
+    door: &Door<'_, J, N>,
+    places: &Places,
+    teller: &mut Teller<'_>,
+) {
+    let place = places.take(rt);
+    teller.turn_to(place, false);
+    match door.listener.accept() {
+        Ok((accepted, address)) => {
+            teller.tell(rt, LinkEvent::Opened(address));
+            let arrival = Arrival::Opened {
+                accepted,
+                door: number,
+                place,
+            };
+            if !leave(rt, shop, shop.short_worker(place), arrival) {
+                teller.tell(rt, LinkEvent::Ended(Ended::Memory));
+                places.give(rt, place);
+            }
+        }
+        Err(_error) => {
+            teller.tell(rt, LinkEvent::NotAccepted);
+            places.give(rt, place);
+            thread::sleep(rt, Duration::from_millis(ACCEPT_PAUSE));
+        }
+    }
+}
+
+/// Accepts connections of a door without an end.
+pub(crate) fn accept_all<J: NodeName, N: Wait + Drop, R: Wait + Clock, const LATEST: u8>(
+    rt: &R,
+    shop: &Shop<'_, J, N, LATEST>,
+    number: usize,
+    teller: Teller<'_>,
+) {
+    let mut teller = teller;
+    let (Some(door), Some(places)) = (shop.doors.get(number), shop.places.get(number)) else {
+        return;
+    };
+    for _ in rt.forever() {
+        accept_next(rt, shop, number, door, places, &mut teller);
+    }
+}

@@ -1,0 +1,57 @@
+//! What is left for a worker by others.
+
+use crate::link::Link;
+use crate::sockets::Accepted;
+use hk_node::{NodeName, Receipt};
+use std::alloc::Global;
+use std::mem;
+use std::sync::{Mutex, Wait};
+
+/// What is left for a worker.
+#[derive(Drop)]
+pub(crate) enum Arrival<'d, J: NodeName, const LATEST: u8> {
+    /// A connection that was accepted at a door, with its place.
+    Opened {
+        accepted: Accepted,
+        door: usize,
+        place: usize,
+    },
+    /// A connection of another worker that asks for something long, and what that worker's seat has seen: it is shown no less here.
+    Moved {
+        link: Box<Link<'d, LATEST>, Global>,
+        seen: Receipt<J>,
+    },
+}
+
+/// What is left for a worker.
+#[derive(Drop)]
+pub(crate) struct Inbox<'d, J: NodeName, const LATEST: u8> {
+    arrivals: Mutex<Vec<Arrival<'d, J, LATEST>>>,
+}
+
+impl<'d, J: NodeName, const LATEST: u8> Inbox<'d, J, LATEST> {
+    pub(crate) fn new(alloc: Global) -> Inbox<'d, J, LATEST> {
+        Inbox {
+            arrivals: Mutex::new(Vec::new(alloc)),
+        }
+    }
+
+    /// Leaves something for the worker, who has to be woken then. Where memory runs out it comes back.
+    pub(crate) fn leave<R: Wait>(
+        &self,
+        rt: &R,
+        arrival: Arrival<'d, J, LATEST>,
+    ) -> Result<(), Arrival<'d, J, LATEST>> {
+        let mut arrivals = self.arrivals.lock(rt);
+        match arrivals.push(arrival) {
+            Ok(_kept) => Ok(()),
+            Err(refused) => Err(refused.value),
+        }
+    }
+
+    /// All that was left.
+    pub(crate) fn take_all<R: Wait>(&self, rt: &R, alloc: Global) -> Vec<Arrival<'d, J, LATEST>> {
+        let mut arrivals = self.arrivals.lock(rt);
+        mem::replace(&mut *arrivals, Vec::new(alloc))
+    }
+}

@@ -1,0 +1,106 @@
+//! Where connections come in, what they may do, and for how long they may keep silent.
+
+use crate::sockets::Listener;
+use hk_doors::Passes;
+use hk_node::{Node, NodeName};
+use std::net::TcpListener;
+use std::os::unix::net::UnixListener;
+use std::sync::Wait;
+
+/// What connections of a door may do.
+#[derive(Drop)]
+pub(crate) enum Way<'a, J: NodeName, N: Wait + Drop> {
+    /// Everything.
+    Open(&'a Node<J, N>),
+    /// Send items, and ask.
+    Feeding(&'a Node<J, N>),
+    /// Ask.
+    Reading,
+}
+
+impl<J: NodeName, N: Wait + Drop> Way<'_, J, N> {
+    /// Which requests it lets through.
+    pub(crate) fn passes(&self) -> Passes {
+        match self {
+            Way::Open(_) => Passes::All,
+            Way::Feeding(_) => Passes::Feeds,
+            Way::Reading => Passes::Readings,
+        }
+    }
+}
+
+/// Where connections come in, what they may do, and how many of them are served at once.
+#[derive(Drop)]
+pub struct Door<'a, J: NodeName, N: Wait + Drop> {
+    pub(crate) listener: Listener<'a>,
+    pub(crate) way: Way<'a, J, N>,
+    pub(crate) links: usize,
+    pub(crate) tells_changes: bool,
+}
+
+impl<'a, J: NodeName, N: Wait + Drop> Door<'a, J, N> {
+    fn new(listener: Listener<'a>, way: Way<'a, J, N>, links: usize) -> Door<'a, J, N> {
+        Door {
+            listener,
+            way,
+            links,
+            tells_changes: false,
+        }
+    }
+
+    /// At most so many connections of this listener at once answer every request, whether the node is guarded or not (see `Node` for
+    /// what a guarded one refuses). A further one waits to be accepted.
+    pub fn open(listener: &'a TcpListener, node: &'a Node<J, N>, links: usize) -> Door<'a, J, N> {
+        Door::new(Listener::Tcp(listener), Way::Open(node), links)
+    }
+
+    /// The same at a Unix domain socket.
+    pub fn open_unix(
+        listener: &'a UnixListener,
+        node: &'a Node<J, N>,
+        links: usize,
+    ) -> Door<'a, J, N> {
+        Door::new(Listener::Unix(listener), Way::Open(node), links)
+    }
+
+    /// At most so many connections of this listener at once answer Items, Feed and the requests that change nothing; another request
+    /// is refused with 4 as a kind that has no meaning there, and ends the connection.
+    pub fn feeding(
+        listener: &'a TcpListener,
+        node: &'a Node<J, N>,
+        links: usize,
+    ) -> Door<'a, J, N> {
+        Door::new(Listener::Tcp(listener), Way::Feeding(node), links)
+    }
+
+    /// At most so many connections of this listener at once answer the requests that change nothing: Front, Delta, Full and Ask; of
+    /// version 2 Streams, AskLatest, Page, Whole, More and Await. Another request is refused with 4 as a kind that has no meaning there,
+    /// and ends the connection, and so does with 2 a frame that is longer than all of these.
+    pub fn reading(listener: &'a TcpListener, links: usize) -> Door<'a, J, N> {
+        Door::new(Listener::Tcp(listener), Way::Reading, links)
+    }
+
+    /// The same at a Unix domain socket.
+    pub fn reading_unix(listener: &'a UnixListener, links: usize) -> Door<'a, J, N> {
+        Door::new(Listener::Unix(listener), Way::Reading, links)
+    }
+
+    /// The same door, of whose connections each change that takes effect is reported too.
+    pub fn with_changes(self) -> Door<'a, J, N> {
+        let mut door = self;
+        door.tells_changes = true;
+        door
+    }
+}
+
+/// For how many seconds a connection may do nothing, where it would have to; 0: for ever.
+#[derive(Clone, Copy)]
+pub struct Limits {
+    /// Inside a frame no byte comes. The connection ends with 91, and so it does where a frame took more reads than its length
+    /// explains: 64, and one more for each 64 bytes of its length.
+    pub read_seconds: u64,
+    /// A reply isn't taken. The connection ends with 92.
+    pub write_seconds: u64,
+    /// Between two frames nothing comes, and nothing is waited for. The connection ends with 91.
+    pub idle_seconds: u64,
+}

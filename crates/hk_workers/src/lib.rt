@@ -1,0 +1,25 @@
+//! Thousands of connections to one running node, served by a few threads.
+//!
+//! A worker is a thread with one seat of the node and all its connections, whose sockets never wait: it sleeps until some of them can be
+//! read or written, a time that one waits for is readable, or a limit of time is over. What crosses threads and sockets is shown by tests.
+#![tactic(auto)]
+
+mod accepting;
+mod arrivals;
+mod doors;
+mod fault;
+mod link;
+mod links;
+mod places;
+mod serving;
+mod shop;
+mod sockets;
+mod staying;
+mod turns;
+mod waiting;
+mod worker;
+mod writing;
+
+pub use doors::{Door, Limits};
+pub use fault::NetFault;
+pub use staying::serve_forever;

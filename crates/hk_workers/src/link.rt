@@ -1,0 +1,194 @@
+//! A connection of a worker: its socket, its session, and what waits between them.
+
+use crate::doors::Limits;
+use crate::sockets::Socket;
+use crate::waiting::Awaited;
+use crate::writing::Unwritten;
+use hk_doors::FrameWatch;
+use hk_link::LinkState;
+use hk_session::{Ended, Session};
+use std::alloc::Global;
+
+/// For how many milliseconds what a peer still sends is read and dropped once its session has ended, so that it can read the last reply:
+/// so many at most, and so many without a byte.
+const MOST_LINGERING: u64 = 2_000;
+
+const MOST_SILENT: u64 = 250;
+
+/// How many bytes are counted together where room is reserved for them.
+const COUNTED_BYTES: u64 = 4_096;
+
+/// What the system said of a socket.
+#[derive(Clone, Copy)]
+pub(crate) struct Readiness {
+    pub(crate) is_readable: bool,
+    pub(crate) is_writable: bool,
+    /// The peer sends no more, or had a byte out of band: it is read until nothing is there.
+    pub(crate) is_special: bool,
+    /// The socket failed.
+    pub(crate) is_broken: bool,
+}
+
+/// A connection of a worker.
+#[derive(Drop)]
+pub(crate) struct Link<'d, const LATEST: u8> {
+    pub(crate) alloc: Global,
+    pub(crate) socket: Socket,
+    /// The number of its door, and its place among the connections of all doors.
+    pub(crate) door: usize,
+    pub(crate) place: usize,
+    pub(crate) session: Session<LATEST>,
+    /// What it keeps beside its worker's seat, and how many bytes of that are reserved for what is between its socket and its session.
+    pub(crate) kept: Option<LinkState<'d>>,
+    pub(crate) reserved: u64,
+    pub(crate) watch: FrameWatch,
+    /// What was read and isn't handed to its session, since it begins with a request for a worker that gives long answers.
+    pub(crate) rest: Vec<u8>,
+    pub(crate) unwritten: Unwritten,
+    /// What it waits for.
+    pub(crate) awaited: Option<Awaited>,
+    /// When a byte came or went last, in milliseconds of the worker's clock.
+    pub(crate) since: u64,
+    pub(crate) ended: Option<Ended>,
+    /// A read may bring something.
+    pub(crate) is_readable: bool,
+    /// It is read until nothing is there: a read that doesn't fill its buffer may not have taken all.
+    pub(crate) is_special: bool,
+    /// It stands in the list of those that have a turn.
+    pub(crate) is_listed: bool,
+    /// Its session keeps requests that can be answered.
+    pub(crate) is_full: bool,
+    /// Its next request is an Await, which was waited for.
+    pub(crate) has_waited: bool,
+    /// The socket is closed for writing, and since when.
+    pub(crate) is_shut: bool,
+    pub(crate) shut_at: u64,
+    /// It ends as it is, whatever stands.
+    pub(crate) is_cut: bool,
+    /// Its session has ended, and what it kept was dropped.
+    pub(crate) has_let_go: bool,
+}
+
+impl<'d, const LATEST: u8> Link<'d, LATEST> {
+    /// A connection that was just accepted. It keeps nothing yet.
+    pub(crate) fn new(
+        alloc: Global,
+        socket: Socket,
+        door: usize,
+        place: usize,
+        now: u64,
+    ) -> Link<'d, LATEST> {
+        Link {
+            alloc,
+            socket,
+            door,
+            place,
+            session: Session::new(alloc),
+            kept: None,
+            reserved: 0,
+            watch: FrameWatch::new(),
+            rest: Vec::new(alloc),
+            unwritten: Unwritten::new(alloc),
+            awaited: None,
+            since: now,
+            ended: None,
+            is_readable: true,
+            is_special: false,
+            is_listed: false,
+            is_full: false,
+            has_waited: false,
+            is_shut: false,
+            shut_at: 0,
+            is_cut: false,
+            has_let_go: false,
+        }
+    }
+
+    /// Notes what the system said of its socket, and returns whether it has a turn. One that waits by an Await isn't read, but what stands
+    /// is written.
+    pub(crate) fn note(&mut self, told: Readiness) -> bool {
+        self.is_readable = self.is_readable || told.is_readable;
+        self.is_special = self.is_special || told.is_special;
+        if told.is_writable {
+            self.unwritten.note_writable();
+        }
+        if told.is_broken && self.awaited.is_some() {
+            self.cut(Ended::ReadFault);
+        }
+        // The system may say no more than that a socket takes bytes, of a connection that has none for it.
+        let is_read = told.is_readable && self.awaited.is_none();
+        self.is_cut || is_read || !self.unwritten.is_empty()
+    }
+
+    /// Reserves room of the budget for what is between its socket and its session: what came of a frame that isn't complete, what waits
+    /// for another worker, and replies that aren't written. A connection for which there is none ends. Fewer bytes than 4,096 aren't counted.
+    pub(crate) fn reserve(&mut self) {
+        let (rest, standing) = (self.rest.len() as u64, self.unwritten.len() as u64);
+        let held = self
+            .watch
+            .held()
+            .saturating_add(rest)
+            .saturating_add(standing);
+        let bytes = held / COUNTED_BYTES * COUNTED_BYTES;
+        if bytes == self.reserved {
+            return;
+        }
+        let has_room = match &mut self.kept {
+            Some(kept) => kept.keep_bytes(bytes),
+            None => true,
+        };
+        if has_room {
+            self.reserved = bytes;
+        } else {
+            self.cut(Ended::Memory);
+        }
+    }
+
+    /// Ends it as it is. A session that had ended keeps how it ended.
+    pub(crate) fn cut(&mut self, ended: Ended) {
+        self.is_cut = true;
+        if self.ended.is_none() {
+            self.ended = Some(ended);
+        }
+    }
+
+    /// How it ended.
+    pub(crate) fn end(&self) -> Ended {
+        match self.ended {
+            Some(ended) => ended,
+            None => Ended::ReadFault,
+        }
+    }
+
+    /// How it ends where it did nothing for too long.
+    pub(crate) fn over_time(&self, now: u64, limits: &Limits) -> Option<Ended> {
+        let silent = now.saturating_sub(self.since);
+        if self.is_shut {
+            let all = now.saturating_sub(self.shut_at);
+            let is_over = silent >= MOST_SILENT || all >= MOST_LINGERING;
+            return if is_over { Some(self.end()) } else { None };
+        }
+        let (seconds, ended) = if !self.unwritten.is_empty() {
+            (limits.write_seconds, Ended::WriteFault)
+        } else if self.awaited.is_some() {
+            return None;
+        } else if self.watch.is_within() {
+            (limits.read_seconds, Ended::ReadFault)
+        } else {
+            (limits.idle_seconds, Ended::ReadFault)
+        };
+        if seconds > 0 && silent >= seconds.saturating_mul(1_000) {
+            Some(ended)
+        } else {
+            None
+        }
+    }
+
+    /// Whether something of it may come to be over time.
+    pub(crate) fn is_timed(&self, limits: &Limits) -> bool {
+        self.is_shut
+            || limits.idle_seconds > 0
+            || !self.unwritten.is_empty() && limits.write_seconds > 0
+            || self.watch.is_within() && limits.read_seconds > 0
+    }
+}

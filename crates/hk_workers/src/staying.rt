@@ -1,0 +1,282 @@
+//! A long-running node: a thread accepts connections at each door, and workers serve them.
+
+ghost use Rattle.std.specs.Prelude.{◌≡◌};
+ghost use Rattle.std.specs.Thread.{IsSend, IsSync};
+
+use crate::accepting::accept_all;
+use crate::arrivals::Inbox;
+use crate::doors::{Door, Limits};
+use crate::fault::NetFault;
+use crate::places::Places;
+use crate::serving::serve_worker;
+use crate::shop::Shop;
+use crate::worker::{PIECE, WAKER};
+use crossbeam_channel::{Sender, bounded};
+use hk_host::{Bell, EVENTS, LinkEvent, Teller, Watch, hand_on};
+use hk_link::PartsBudget;
+use hk_node::{NodeName, ReaderSeat};
+use mio::{Events, Poll, Token, Waker};
+use std::alloc::{AllocError, Global};
+use std::net::Net;
+use std::rt::Clock;
+use std::sync::Wait;
+use std::sync::atomic::AtomicU64;
+use std::thread;
+use std::thread::{Scope, Threads};
+
+/// How many events one wait of a worker brings at most.
+const MOST_EVENTS: usize = 1_024;
+
+/// So many sets of sockets to wait for, and what wakes whoever waits for each.
+fn polls_of<R: Net>(
+    rt: &R,
+    alloc: Global,
+    count: usize,
+) -> Result<(Vec<Poll>, Vec<Waker>), NetFault> {
+    let mut polls = Vec::with_capacity(alloc, count)?;
+    let mut wakers = Vec::with_capacity(alloc, count)?;
+    for _ in 0..count {
+        let poll = Poll::new(rt)?;
+        let waker = Waker::new(poll.registry(), Token(WAKER))?;
+        if wakers.push(waker).is_err() || polls.push(poll).is_err() {
+            return Err(NetFault::Memory);
+        }
+    }
+    Ok((polls, wakers))
+}
+
+/// The places of each door's connections, one after the other.
+fn places_of<J: NodeName, N: Wait + Drop>(
+    alloc: Global,
+    doors: &[Door<'_, J, N>],
+) -> Result<Vec<Places>, AllocError> {
+    let mut places = Vec::with_capacity(alloc, doors.len())?;
+    let mut first = 0usize;
+    for door in doors {
+        places.push(Places::new(alloc, first, door.links))?;
+        first = first.saturating_add(door.links);
+    }
+    Ok(places)
+}
+
+/// An empty inbox for each worker.
+fn inboxes_of<'d, J: NodeName, const LATEST: u8>(
+    alloc: Global,
+    count: usize,
+) -> Result<Vec<Inbox<'d, J, LATEST>>, AllocError> {
+    let mut inboxes = Vec::with_capacity(alloc, count)?;
+    for _ in 0..count {
+        inboxes.push(Inbox::new(alloc))?;
+    }
+    Ok(inboxes)
+}
+
+/// Starts the thread of a worker. Returns false where it can't be started.
+fn start_worker<
+    's,
+    'd,
+    E,
+    J: NodeName + Send + Sync,
+    N: Wait + Drop + Send + Sync,
+    R: Threads + Wait + Clock + Sync,
+    const LATEST: u8,
+>(
+    scope: &Scope<'s, E>,
+    rt: &'s R,
+    alloc: Global,
+    number: usize,
+    shop: &'s Shop<'d, J, N, LATEST>,
+    poll: Poll,
+    seat: ReaderSeat<J>,
+    events: &Sender<(usize, LinkEvent)>,
+) -> bool {
+    let (Ok(piece), Ok(room), Ok(teller)) = (
+        Vec::from_elem(alloc, 0u8, PIECE),
+        Events::with_capacity(alloc, MOST_EVENTS),
+        Teller::new(events, &shop.bell),
+    ) else {
+        return false;
+    };
+    scope
+        .spawn(move || serve_worker(rt, alloc, number, shop, poll, room, piece, teller, seat))
+        .is_ok()
+}
+
+/// Starts the thread that accepts at a door. Returns false where it can't be started.
+fn start_door<
+    's,
+    'd,
+    E,
+    J: NodeName + Send + Sync,
+    N: Wait + Drop + Send + Sync,
+    R: Threads + Wait + Clock + Sync,
+    const LATEST: u8,
+>(
+    scope: &Scope<'s, E>,
+    rt: &'s R,
+    number: usize,
+    shop: &'s Shop<'d, J, N, LATEST>,
+    events: &Sender<(usize, LinkEvent)>,
+) -> bool {
+    match Teller::new(events, &shop.bell) {
+        Ok(teller) => scope
+            .spawn(move || accept_all(rt, shop, number, teller))
+            .is_ok(),
+        Err(_memory) => false,
+    }
+}
+
+/// Starts all threads. Returns false where no worker or no door has one.
+fn start_all<
+    's,
+    'd,
+    E,
+    J: NodeName + Send + Sync,
+    N: Wait + Drop + Send + Sync,
+    R: Threads + Wait + Clock + Sync,
+    T: Watch,
+    const LATEST: u8,
+>(
+    scope: &Scope<'s, E>,
+    rt: &'s R,
+    alloc: Global,
+    shop: &'s Shop<'d, J, N, LATEST>,
+    polls: Vec<Poll>,
+    seats: Vec<ReaderSeat<J>>,
+    events: &Sender<(usize, LinkEvent)>,
+    watch: &mut T,
+) -> bool {
+    let mut number = 0usize;
+    for (poll, seat) in polls.into_iter().zip(seats.into_iter()) {
+        if start_worker(scope, rt, alloc, number, shop, poll, seat, events) {
+            shop.note_running(number);
+        } else {
+            watch.told(number, LinkEvent::NotStarted);
+        }
+        number = number.saturating_add(1);
+    }
+    let mut is_open = false;
+    for door in 0..shop.doors.len() {
+        if start_door(scope, rt, door, shop, events) {
+            is_open = true;
+        } else {
+            watch.told(door, LinkEvent::NotStarted);
+        }
+    }
+    is_open && shop.short_worker(0).is_some()
+}
+
+/// Starts all threads, and hands on what happens.
+fn serve_shop<
+    's,
+    'd,
+    J: NodeName + Send + Sync,
+    N: Wait + Drop + Send + Sync,
+    R: Threads + Wait + Clock + Sync,
+    T: Watch,
+    const LATEST: u8,
+>(
+    rt: &'s R,
+    alloc: Global,
+    shop: &'s Shop<'d, J, N, LATEST>,
+    polls: Vec<Poll>,
+    seats: Vec<ReaderSeat<J>>,
+    watch: &mut T,
+) -> Result<(), NetFault> {
+    let (events, told) = bounded::<(usize, LinkEvent), _>(alloc, EVENTS)?;
+    thread::scope(
+        thread::scope_env(),
+        rt,
+        |scope| -> Result<(), NetFault>
+            requires { IsSend J.row × IsSync J.row × IsSend N.row × IsSync N.row × IsSync R.row }
+        {
+            let is_started = start_all(scope, rt, alloc, shop, polls, seats, &events, watch);
+            drop(events);
+            if !is_started {
+                return Err(NetFault::Memory);
+            }
+            hand_on(rt, &told, watch);
+            Ok(())
+        },
+    )
+}
+
+/// Serves connections in messages up to this version.
+fn serve_in<
+    'd,
+    J: NodeName + Send + Sync,
+    N: Wait + Drop + Send + Sync,
+    R: Net + Threads + Wait + Clock + Sync,
+    T: Watch,
+    const LATEST: u8,
+>(
+    rt: &R,
+    alloc: Global,
+    doors: Vec<Door<'d, J, N>>,
+    seats: Vec<ReaderSeat<J>>,
+    budget: &'d PartsBudget,
+    limits: Limits,
+    watch: &mut T,
+) -> Result<(), NetFault> {
+    let mut seats = seats;
+    let (polls, wakers) = polls_of(rt, alloc, seats.len())?;
+    let bell = Bell::new(alloc, wakers)?;
+    if let Some(seat) = seats.first_mut() {
+        if let Ok(front) = seat.front() {
+            bell.ring(front.readable);
+        }
+    }
+    let places = places_of(alloc, &doors)?;
+    let inboxes = inboxes_of(alloc, seats.len())?;
+    let shop: Shop<'d, J, N, LATEST> = Shop {
+        doors,
+        places,
+        inboxes,
+        bell,
+        budget,
+        limits,
+        running: AtomicU64::new(0),
+    };
+    serve_shop(rt, alloc, &shop, polls, seats, watch)
+}
+
+/// Serves connections without an end, with a worker for each seat: the first half of them give short answers, the others long ones. A
+/// thread for each door accepts connections, at most as many at once as the door has places, and deals them out to the workers for short
+/// answers. A connection that asks for something long (Delta, Full, JoinThis, MergeThis, Prune, Whole, More, JoinParts, MergeParts, a
+/// query other than for one row, a page of more than 1,024 rows, or a frame of more than 65,536 bytes) is handed to a worker
+/// for long answers, whose seat first catches up with the other one, and stays there. So what a long answer holds up are other
+/// connections that ask for something long, and what a change holds up are those of its worker.
+///
+/// A connection is read, and its next request answered, only while at most 65,536 bytes of its replies stand unwritten. It is answered in
+/// version 1, or where `in_both` says so in both versions. All connections keep at most as many bytes as the budget has. When a
+/// session ends, the release of each of its pins is asked for; a pin whose release is refused then (`Damaged`, `NodeFull` or
+/// `Memory`) stays active, and is handed to the next connection of the worker that may release pins. An Await takes a place in a list, and
+/// no thread.
+///
+/// `watch` gets an event for each connection that opens and ends, for each change that is refused, and through a door that wants it for each
+/// that takes effect, with the slot of the connection, in the order in which that is seen; connections wait where it is slow. A
+/// failed accept is reported, and tried again after a tenth of a second; it ends nothing. `Memory` comes where the lists can't be made, or
+/// no thread could be started, `Socket` where the system has no set of sockets for a worker. It returns otherwise never. Cost: that of the
+/// sessions.
+pub fn serve_forever<
+    'd,
+    J: NodeName + Send + Sync,
+    N: Wait + Drop + Send + Sync,
+    R: Net + Threads + Wait + Clock + Sync,
+    T: Watch,
+>(
+    rt: &R,
+    alloc: Global,
+    doors: Vec<Door<'d, J, N>>,
+    seats: Vec<ReaderSeat<J>>,
+    budget: &'d PartsBudget,
+    in_both: bool,
+    limits: Limits,
+    watch: &mut T,
+) -> Result<(), NetFault> {
+    if in_both {
+        serve_in::<J, N, R, T, 2>(rt, alloc, doors, seats, budget, limits, watch)
+    } else {
+        serve_in::<J, N, R, T, 1>(rt, alloc, doors, seats, budget, limits, watch)
+    }
+}

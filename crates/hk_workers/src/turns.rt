@@ -1,0 +1,348 @@
+//! A connection's turn: what is there is read, answered and written, at most so much that others have their turn soon.
+
+ghost use Rattle.std.specs.Prelude.{◌≡◌, ◌≤◌, length};
+
+use crate::link::Link;
+use crate::writing::MOST_HELD;
+use hk_doors::Passes;
+use hk_link::{LinkState, NodeSide, PartsHost};
+use hk_session::{Ended, Host, Session, Step};
+use std::io::ErrorKind;
+use std::mem;
+
+/// How often a connection is read in one turn at most.
+const MOST_READS: u32 = 16;
+
+/// What a worker knows as a connection has its turn.
+#[derive(Clone, Copy)]
+pub(crate) struct Moment {
+    /// Which requests its door lets through.
+    pub(crate) passes: Passes,
+    /// Whether the worker gives long answers.
+    pub(crate) is_at_long_end: bool,
+    /// Whether a frame may take only so many reads.
+    pub(crate) counts_reads: bool,
+    /// The number of the greatest time that is known to be readable.
+    pub(crate) readable: u64,
+    /// The worker's clock, in milliseconds.
+    pub(crate) now: u64,
+}
+
+/// What is left of a connection after its turn.
+#[derive(Clone, Copy, PartialEq, Eq)]
+pub(crate) enum Turn {
+    /// Nothing can be done until the system says so, or a limit of time is over.
+    Waits,
+    /// There is more to do, after the others.
+    Again,
+    /// Its next request is an Await: until this number is readable, or so many milliseconds are over.
+    Parks { number: u64, milliseconds: u32 },
+    /// Its next request is for a worker that gives long answers.
+    Moves,
+    /// It is over.
+    Over,
+}
+
+impl<'d, const LATEST: u8> Link<'d, LATEST> {
+    /// What a connection does next whose socket takes no more, or has a lot.
+    fn until_written(&self) -> Turn {
+        if self.unwritten.is_writable() {
+            Turn::Again
+        } else {
+            Turn::Waits
+        }
+    }
+
+    /// What it does next that can't be read now.
+    fn until_read(&self) -> Turn {
+        if self.unwritten.is_empty() {
+            Turn::Waits
+        } else {
+            self.until_written()
+        }
+    }
+
+    /// Ends the session at the end of its input; these bytes began a frame.
+    fn end_input<H: Host>(&mut self, begun: &[u8], out: &mut Vec<u8>, host: &mut H) -> Step
+        requires { H.ready host.old }
+        ensures { H.ready host.new }
+    {
+        let step = self.session.take(begun, false, out, host);
+        if !matches!(step, Step::GoesOn) {
+            return step;
+        }
+        let session = mem::replace(&mut self.session, Session::new(self.alloc));
+        Step::Ended(session.finish(out))
+    }
+
+    /// Hands on what a read brought, behind what began a frame before.
+    fn take_in<H: Host>(
+        &mut self,
+        moment: Moment,
+        came: &mut [u8],
+        out: &mut Vec<u8>,
+        host: &mut H,
+    ) -> Step
+        requires { H.ready host.old }
+        ensures { H.ready host.new }
+    {
+        let taken = self.watch.take(came, moment.passes, moment.is_at_long_end);
+        if taken.is_long && self.rest.extend_from_slice(&came[taken.count..]).is_err() {
+            return Step::Ended(Ended::Memory);
+        }
+        self.session.take(&came[..taken.count], false, out, host)
+    }
+
+    /// Whether the read that is made now, inside a frame, is one too many for it.
+    fn reads_too_often(&mut self, moment: Moment) -> bool {
+        moment.counts_reads && self.watch.is_within() && self.watch.is_one_too_many()
+    }
+
+    /// Reads once, and answers what is complete. `None` where nothing is there to read.
+    fn read<H: Host>(
+        &mut self,
+        moment: Moment,
+        piece: &mut [u8],
+        out: &mut Vec<u8>,
+        host: &mut H,
+    ) -> Option<Step>
+        requires { H.ready host.old }
+        ensures ready { H.ready host.new }
+        ensures kept { length piece.new ≡ length piece.old }
+    {
+        let begun = self.watch.put_begun(piece);
+        match self.socket.read(&mut piece[begun..]) {
+            Ok(0) => Some(self.end_input(&piece[..begun], out, host)),
+            Ok(count) => {
+                self.since = moment.now;
+                if self.reads_too_often(moment) {
+                    return Some(Step::Ended(Ended::ReadFault));
+                }
+                // A read that doesn't fill its buffer took all that had come: the system tells what comes next.
+                if count < piece.len() - begun && !self.is_special {
+                    self.is_readable = false;
+                }
+                Some(self.take_in(moment, &mut piece[..begun + count], out, host))
+            }
+            Err(error) => match error.kind() {
+                ErrorKind::WouldBlock => {
+                    self.is_readable = false;
+                    None
+                }
+                ErrorKind::Interrupted => Some(Step::GoesOn),
+                _ => Some(Step::Ended(Ended::ReadFault)),
+            },
+        }
+    }
+
+    /// Hands on what an earlier worker had read.
+    fn take_rest<H: Host>(&mut self, moment: Moment, out: &mut Vec<u8>, host: &mut H) -> Step
+        requires { H.ready host.old }
+        ensures { H.ready host.new }
+    {
+        let mut rest = mem::replace(&mut self.rest, Vec::new(self.alloc));
+        self.take_in(moment, &mut rest, out, host)
+    }
+
+    /// Answers what waits, or what is there to read. `None` where nothing is.
+    fn step<H: Host>(
+        &mut self,
+        moment: Moment,
+        piece: &mut [u8],
+        out: &mut Vec<u8>,
+        host: &mut H,
+    ) -> Option<Step>
+        requires { H.ready host.old }
+        ensures ready { H.ready host.new }
+        ensures kept { length piece.new ≡ length piece.old }
+    {
+        if self.is_full || self.has_waited {
+            let has_waited = mem::replace(&mut self.has_waited, false);
+            return Some(self.session.take(&[], has_waited, out, host));
+        }
+        if !self.rest.is_empty() {
+            return Some(self.take_rest(moment, out, host));
+        }
+        if !self.is_readable {
+            return None;
+        }
+        self.read(moment, piece, out, host)
+    }
+
+    /// Notes how far the session is. An Await whose time is readable, or that waits for no time at all, is answered by the next step.
+    fn note_step(&mut self, step: Step, readable: u64) -> Option<Turn> {
+        self.is_full = matches!(step, Step::Full);
+        match step {
+            Step::GoesOn | Step::Full => {}
+            Step::Ended(ended) => self.ended = Some(ended),
+            Step::Waits { t, milliseconds } => {
+                let number = t.number();
+                if milliseconds > 0 && number > readable {
+                    return Some(Turn::Parks {
+                        number,
+                        milliseconds,
+                    });
+                }
+                self.has_waited = true;
+            }
+        }
+        None
+    }
+
+    /// Whether its next request is for a worker that gives long answers, and this isn't one.
+    fn has_to_move(&self, moment: Moment) -> bool {
+        !moment.is_at_long_end && !self.rest.is_empty() && !self.is_full && !self.has_waited
+    }
+
+    /// Writes what stands. Returns false where the socket failed.
+    fn write(&mut self, moment: Moment) -> bool {
+        let before = self.unwritten.len();
+        let is_well = self.unwritten.write(&self.socket);
+        if self.unwritten.len() < before {
+            self.since = moment.now;
+        }
+        is_well
+    }
+
+    /// Writes what stands of a connection that waits by an Await. Returns false where it has to end.
+    pub(crate) fn write_waiting(&mut self, moment: Moment) -> bool {
+        if !self.is_cut && !self.write(moment) {
+            self.cut(Ended::WriteFault);
+        }
+        self.reserve();
+        !self.is_cut
+    }
+
+    /// One after the other what can be done now, until the session ends.
+    fn steps<H: Host>(
+        &mut self,
+        moment: Moment,
+        piece: &mut [u8],
+        out: &mut Vec<u8>,
+        host: &mut H,
+    ) -> Turn
+        requires { H.ready host.old }
+        ensures { H.ready host.new }
+    {
+        for _ in 0..MOST_READS {
+            if self.unwritten.len() > MOST_HELD {
+                return self.until_written();
+            }
+            if self.has_to_move(moment) {
+                return Turn::Moves;
+            }
+            let Some(step) = self.step(moment, piece, out, host) else {
+                return self.until_read();
+            };
+            let turn = self.note_step(step, moment.readable);
+            if !out.is_empty() {
+                self.since = moment.now;
+            }
+            if !self.unwritten.put(&self.socket, out) {
+                self.cut(Ended::WriteFault);
+            }
+            if self.ended.is_some() {
+                return Turn::Again;
+            }
+            if let Some(turn) = turn {
+                return turn;
+            }
+        }
+        Turn::Again
+    }
+
+    /// What is done once the session has ended: its last replies are written, the socket is closed for writing, and what it still
+    /// sends is read and dropped for a while. A connection that is closed over bytes that nobody read is cut off, and the peer
+    /// could lose what was written.
+    fn linger(&mut self, moment: Moment, piece: &mut [u8]) -> Turn {
+        if self.is_cut {
+            return Turn::Over;
+        }
+        if !self.unwritten.is_empty() {
+            return self.until_written();
+        }
+        if self.ended == Some(Ended::Clean) {
+            return Turn::Over;
+        }
+        if !self.is_shut {
+            self.is_shut = true;
+            self.shut_at = moment.now;
+            self.since = moment.now;
+            if self.socket.end_writing().is_err() {
+                return Turn::Over;
+            }
+        }
+        self.drop_input(moment, piece)
+    }
+
+    /// Reads and drops what the peer still sends.
+    fn drop_input(&mut self, moment: Moment, piece: &mut [u8]) -> Turn {
+        for _ in 0..MOST_READS {
+            match self.socket.read(piece) {
+                Ok(0) => return Turn::Over,
+                Ok(_count) => self.since = moment.now,
+                Err(error) if error.kind() == ErrorKind::WouldBlock => return Turn::Waits,
+                Err(_error) => return Turn::Over,
+            }
+        }
+        Turn::Again
+    }
+
+    /// What it does next, unless it was ended.
+    fn unless_cut(&self, turn: Turn) -> Turn {
+        if self.is_cut { Turn::Again } else { turn }
+    }
+
+    /// Keeps what is left of a session that has ended: pins that the node handed back are others' from now on.
+    fn let_go(&mut self, state: LinkState<'d>, left: &mut Vec<LinkState<'d>>) {
+        let mut state = state;
+        self.has_let_go = true;
+        if state.hold_count() == 0 {
+            self.kept = Some(state);
+            self.reserve();
+            return;
+        }
+        state.keep_bytes(0);
+        // Where memory runs out the pins stay in the node.
+        let _kept = left.push(state);
+    }
+
+    /// Has its turn over a host of its worker's seat, which is returned. Once its session has ended what it kept is dropped: the release
+    /// of each of its pins is asked for, and where the node hands some back they are put into `left`.
+    pub(crate) fn turn<H: NodeSide + Drop>(
+        &mut self,
+        moment: Moment,
+        piece: &mut [u8],
+        out: &mut Vec<u8>,
+        host: H,
+        left: &mut Vec<LinkState<'d>>,
+    ) -> (Turn, H)
+        requires { H.ready host }
+    {
+        if !self.write(moment) {
+            self.cut(Ended::WriteFault);
+        }
+        let Some(kept) = self.kept.take() else {
+            return (self.linger(moment, piece), host);
+        };
+        if self.has_let_go {
+            let turn = self.linger(moment, piece);
+            self.kept = Some(kept);
+            self.reserve();
+            return (turn, host);
+        }
+        let mut both = PartsHost::new(host, kept);
+        if self.ended.is_none() {
+            let turn = self.steps(moment, piece, out, &mut both);
+            if self.ended.is_none() {
+                let (host, kept) = both.into_parts();
+                self.kept = Some(kept);
+                self.reserve();
+                return (self.unless_cut(turn), host);
+            }
+        }
+        let (host, state) = both.end();
+        self.let_go(state, left);
+        (Turn::Again, host)
+    }
+}

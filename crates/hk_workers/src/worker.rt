@@ -1,0 +1,135 @@
+//! A worker's connections, which of them wait, and its clock.
+
+use crate::link::Readiness;
+use crate::links::Links;
+use crate::shop::Shop;
+use crate::waiting::Waiting;
+use hk_link::LinkState;
+use hk_node::NodeName;
+use mio::Events;
+use std::alloc::Global;
+use std::sync::Wait;
+use std::time::Duration;
+
+/// The token of a worker's waker; connections have those from 0 on.
+pub(crate) const WAKER: usize = usize::MAX;
+
+/// How many bytes a read brings at most, behind the first 36 of a frame.
+pub(crate) const PIECE: usize = 65_572;
+
+/// How many milliseconds pass between two looks at the limits of time.
+const LOOK_PAUSE: u64 = 100;
+
+/// A worker's connections, which of them wait, and its buffers.
+#[derive(Drop)]
+pub(crate) struct Worker<'d, const LATEST: u8> {
+    pub(crate) alloc: Global,
+    pub(crate) number: usize,
+    pub(crate) links: Links<'d, LATEST>,
+    pub(crate) waiting: Waiting,
+    pub(crate) piece: Vec<u8>,
+    pub(crate) out: Vec<u8>,
+    /// Pins of connections that ended, whose release was refused: the next connections that may release pins have them.
+    pub(crate) left: Vec<LinkState<'d>>,
+    /// The clock, in milliseconds, and when the limits of time are looked at next, where something has one.
+    pub(crate) now: u64,
+    look: u64,
+    pub(crate) is_timed: bool,
+}
+
+impl<'d, const LATEST: u8> Worker<'d, LATEST> {
+    /// A worker without connections, with a buffer for what it reads.
+    pub(crate) fn new(alloc: Global, number: usize, piece: Vec<u8>) -> Worker<'d, LATEST> {
+        Worker {
+            alloc,
+            number,
+            links: Links::new(alloc),
+            waiting: Waiting::new(alloc),
+            piece,
+            out: Vec::new(alloc),
+            left: Vec::new(alloc),
+            now: 0,
+            look: 0,
+            is_timed: false,
+        }
+    }
+
+    /// For how long the worker sleeps, where nothing happens.
+    pub(crate) fn time_out(&self, readable: u64) -> Option<Duration> {
+        if self.links.has_listed() || self.waiting.is_due(readable, self.now) {
+            return Some(Duration::from_millis(0));
+        }
+        let look = if self.is_timed { Some(self.look) } else { None };
+        let next = match (look, self.waiting.next_moment()) {
+            (Some(look), Some(moment)) => look.min(moment),
+            (Some(look), None) => look,
+            (None, Some(moment)) => moment,
+            (None, None) => return None,
+        };
+        Some(Duration::from_millis(next.saturating_sub(self.now)))
+    }
+
+    /// Notes what the system said; returns whether somebody woke the worker.
+    pub(crate) fn take_events(&mut self, events: &Events) -> bool {
+        let mut is_woken = false;
+        for event in events {
+            let token = event.token().0;
+            if token == WAKER {
+                is_woken = true;
+                continue;
+            }
+            let is_special = event.is_read_closed() || event.is_error() || event.is_priority();
+            self.links.note(
+                token,
+                Readiness {
+                    is_readable: event.is_readable() || is_special,
+                    is_writable: event.is_writable(),
+                    is_special,
+                    is_broken: event.is_error() || event.is_write_closed(),
+                },
+            );
+        }
+        is_woken
+    }
+
+    /// Gives a turn to each connection whose time is readable, or that waited for as long as it wanted.
+    pub(crate) fn wake_due(&mut self, readable: u64) {
+        for _ in 0..u64::MAX {
+            let Some(token) = self.waiting.take_due(readable, self.now) else {
+                return;
+            };
+            let Some(link) = self.links.get_mut(token) else {
+                continue;
+            };
+            if let Some(awaited) = link.awaited.take() {
+                self.waiting.remove(token, awaited);
+            }
+            link.has_waited = true;
+            link.since = self.now;
+            self.links.list(token);
+        }
+    }
+
+    /// Ends the connections that did nothing for too long, once it is time to look at that again.
+    pub(crate) fn look_at_limits<J: NodeName, N: Wait + Drop>(
+        &mut self,
+        shop: &Shop<'d, J, N, LATEST>,
+    ) {
+        if !self.is_timed || self.now < self.look {
+            return;
+        }
+        self.look = self.now.saturating_add(LOOK_PAUSE);
+        let mut is_timed = false;
+        for token in 0..self.links.len() {
+            let Some(link) = self.links.get_mut(token) else {
+                continue;
+            };
+            is_timed = is_timed || link.is_timed(&shop.limits);
+            if let Some(ended) = link.over_time(self.now, &shop.limits) {
+                link.cut(ended);
+                self.links.list(token);
+            }
+        }
+        self.is_timed = is_timed;
+    }
+}

@@ -1,0 +1,179 @@
+//! Replies that a socket didn't take yet.
+
+use crate::sockets::Socket;
+use std::alloc::Global;
+use std::io::ErrorKind;
+use std::mem;
+
+/// How many bytes of replies may stand before a connection is read again, or has its next request answered.
+pub(crate) const MOST_HELD: usize = 65_536;
+
+/// How many bytes are written in one turn, or one write more.
+const MOST_WRITTEN: usize = 1_048_576;
+
+/// From how much room on an empty buffer is freed.
+const MOST_KEPT: usize = 262_144;
+
+/// How far a write came.
+#[derive(Clone, Copy)]
+enum Wrote {
+    All,
+    /// So many bytes, and the socket takes no more now.
+    Some(usize),
+    /// So many bytes, and others have their turn first.
+    Enough(usize),
+    Failed,
+}
+
+/// Writes until all is written, the socket takes no more, or it was much.
+fn write_some(socket: &Socket, bytes: &[u8]) -> Wrote {
+    let mut done = 0usize;
+    for _ in 0..u64::MAX {
+        let Some(rest) = bytes.get(done..) else {
+            return Wrote::All;
+        };
+        if rest.is_empty() {
+            return Wrote::All;
+        }
+        if done >= MOST_WRITTEN {
+            return Wrote::Enough(done);
+        }
+        let piece = &rest[..rest.len().min(MOST_WRITTEN)];
+        match socket.write(piece) {
+            Ok(0) => return Wrote::Failed,
+            Ok(count) => done = done.saturating_add(count),
+            Err(error) => match error.kind() {
+                ErrorKind::WouldBlock => return Wrote::Some(done),
+                ErrorKind::Interrupted => {}
+                _ => return Wrote::Failed,
+            },
+        }
+    }
+    Wrote::Some(done)
+}
+
+/// Replies that a socket didn't take yet: those of `bytes` from `written` on.
+#[derive(Drop)]
+pub(crate) struct Unwritten {
+    alloc: Global,
+    bytes: Vec<u8>,
+    written: usize,
+    /// The socket would have taken more.
+    is_writable: bool,
+}
+
+impl Unwritten {
+    pub(crate) fn new(alloc: Global) -> Unwritten {
+        Unwritten {
+            alloc,
+            bytes: Vec::new(alloc),
+            written: 0,
+            is_writable: true,
+        }
+    }
+
+    /// How many bytes stand.
+    pub(crate) fn len(&self) -> usize {
+        self.bytes.len().saturating_sub(self.written)
+    }
+
+    pub(crate) fn is_empty(&self) -> bool {
+        self.len() == 0
+    }
+
+    /// Whether the socket would have taken more at the last write.
+    pub(crate) fn is_writable(&self) -> bool {
+        self.is_writable
+    }
+
+    /// Notes that the socket takes bytes again.
+    pub(crate) fn note_writable(&mut self) {
+        self.is_writable = true;
+    }
+
+    /// Notes how far a write came that began at `written`. Returns false where it failed.
+    fn note(&mut self, wrote: Wrote) -> bool {
+        match wrote {
+            Wrote::All => {
+                self.bytes = Vec::new(self.alloc);
+                self.written = 0;
+                self.is_writable = true;
+            }
+            Wrote::Some(count) => {
+                self.written = self.written.saturating_add(count);
+                self.is_writable = false;
+            }
+            Wrote::Enough(count) => {
+                self.written = self.written.saturating_add(count);
+                self.is_writable = true;
+            }
+            Wrote::Failed => return false,
+        }
+        true
+    }
+
+    /// Writes what stands, as far as the socket takes it now. Returns false where the socket failed.
+    pub(crate) fn write(&mut self, socket: &Socket) -> bool {
+        if self.is_empty() {
+            return true;
+        }
+        let wrote = match self.bytes.get(self.written..) {
+            Some(rest) => write_some(socket, rest),
+            None => Wrote::All,
+        };
+        self.note(wrote)
+    }
+
+    /// Puts what a step added behind what stands. Returns false where memory ran out for it.
+    fn put_behind(&mut self, out: &[u8]) -> bool {
+        let left = self.len();
+        if self.written > 0 && self.written <= self.bytes.len() {
+            self.bytes.copy_within(self.written.., 0);
+            self.bytes.truncate(left);
+            self.written = 0;
+        }
+        self.bytes.extend_from_slice(out).is_ok()
+    }
+
+    /// Writes what a step added, behind what stands, and empties it; what the socket doesn't take now stands. Returns false where the
+    /// socket failed, or memory ran out for what stands.
+    pub(crate) fn put(&mut self, socket: &Socket, out: &mut Vec<u8>) -> bool {
+        if out.is_empty() {
+            return true;
+        }
+        let is_well = if self.is_empty() {
+            self.put_first(socket, out)
+        } else {
+            self.put_behind(out)
+        };
+        // A long reply leaves no room behind that its worker would keep.
+        if out.capacity() > MOST_KEPT {
+            *out = Vec::new(self.alloc);
+        }
+        out.clear();
+        is_well
+    }
+
+    /// The same where nothing stands. What is long isn't copied: it stands where it is.
+    fn put_first(&mut self, socket: &Socket, out: &mut Vec<u8>) -> bool {
+        let wrote = write_some(socket, out);
+        match wrote {
+            Wrote::All => true,
+            Wrote::Failed => false,
+            Wrote::Some(count) | Wrote::Enough(count) => {
+                self.written = 0;
+                match out.get(count..) {
+                    Some(rest) if rest.len() <= MOST_HELD => {
+                        self.is_writable = matches!(wrote, Wrote::Enough(_));
+                        self.bytes.clear();
+                        self.bytes.extend_from_slice(rest).is_ok()
+                    }
+                    _ => {
+                        self.bytes = mem::replace(out, Vec::new(self.alloc));
+                        self.note(wrote)
+                    }
+                }
+            }
+        }
+    }
+}
