@@ -84,17 +84,19 @@ giving_after g = if length (later_facts g) == 0 then None else Some (record g { 
 
 -- ---- the link
 
--- what a link keeps: how many bytes all links of the node may keep, what this one gives, the facts that came, and its holds
+-- what a link keeps: how many bytes all links of the node may keep, what this one gives, the facts that came, its holds, and how many bytes
+-- it reserved for what is between its socket and its session
 pub record LinkStateValue : Type 0 where
   pub most : ℕ
   pub giving : Option OutgoingValue
   pub came : List Known
   pub holds : List Hold
+  pub buffers : ℕ
 
 abbrev pub link_state_code : Coded Hold → Coded LinkStateValue
 link_state_code hold =
-    code_by (ℕ × (Option OutgoingValue × (List Known × List Hold))) (coded× coded_ℕ (coded× (coded_option outgoing_code) (coded× (coded_list known_code) (coded_list hold))))
-    (λ l. (l.most, (l.giving, (l.came, l.holds)))) (λ p. record { most = p.0; giving = p.1.0; came = p.1.1.0; holds = p.1.1.1 }) (λ _. refl)
+    code_by (ℕ × (Option OutgoingValue × (List Known × (List Hold × ℕ)))) (coded× coded_ℕ (coded× (coded_option outgoing_code) (coded× (coded_list known_code) (coded× (coded_list hold) coded_ℕ))))
+    (λ l. (l.most, (l.giving, (l.came, (l.holds, l.buffers))))) (λ p. record { most = p.0; giving = p.1.0; came = p.1.1.0; holds = p.1.1.1.0; buffers = p.1.1.1.1 }) (λ _. refl)
 
 -- the host for version 1, and what the link keeps
 pub record LinkValue (S : Type 0) : Type 0 where
@@ -103,11 +105,12 @@ pub record LinkValue (S : Type 0) : Type 0 where
   pub giving : Option OutgoingValue
   pub came : List Known
   pub holds : List Hold
+  pub buffers : ℕ
 
 abbrev pub link_code : {S : Type 0} → Coded S → Coded Hold → Coded (LinkValue S)
 link_code {S} inner hold =
-    code_by (S × (ℕ × (Option OutgoingValue × (List Known × List Hold)))) (coded× inner (coded× coded_ℕ (coded× (coded_option outgoing_code) (coded× (coded_list known_code) (coded_list hold)))))
-    (λ l. (l.inner, (l.most, (l.giving, (l.came, l.holds))))) (λ p. record { inner = p.0; most = p.1.0; giving = p.1.1.0; came = p.1.1.1.0; holds = p.1.1.1.1 }) (λ _. refl)
+    code_by (S × (ℕ × (Option OutgoingValue × (List Known × (List Hold × ℕ))))) (coded× inner (coded× coded_ℕ (coded× (coded_option outgoing_code) (coded× (coded_list known_code) (coded× (coded_list hold) coded_ℕ)))))
+    (λ l. (l.inner, (l.most, (l.giving, (l.came, (l.holds, l.buffers)))))) (λ p. record { inner = p.0; most = p.1.0; giving = p.1.1.0; came = p.1.1.1.0; holds = p.1.1.1.1.0; buffers = p.1.1.1.1.1 }) (λ _. refl)
 
 -- ---- what is given, step by step
 
@@ -143,8 +146,8 @@ with_place kept time = record kept { holds = kept.holds ++ (record { reader = 0;
 
 -- the link of a host for version 1 that keeps this
 abbrev pub link_of : {S : Type 0} → S → LinkStateValue → LinkValue S
-link_of inner kept = record { inner = inner; most = kept.most; giving = kept.giving; came = kept.came; holds = kept.holds }
+link_of inner kept = record { inner = inner; most = kept.most; giving = kept.giving; came = kept.came; holds = kept.holds; buffers = kept.buffers }
 
--- what a link keeps that gives nothing, to which nothing came, and that has these holds
+-- what a link keeps that gives nothing, to which nothing came, that has these holds, and no bytes beside them
 abbrev pub fresh_state : ℕ → List Hold → LinkStateValue
-fresh_state most holds = record { most = most; giving = None; came = []; holds = holds }
+fresh_state most holds = record { most = most; giving = None; came = []; holds = holds; buffers = 0 }

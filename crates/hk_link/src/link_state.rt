@@ -1,6 +1,6 @@
 //! What a connection keeps beside its seat.
 
-ghost use Rattle.std.specs.Prelude.{◌≡◌, ◌<◌, ◌-◌, ◌++◌, ◌∷◌, [], Ok, IfOk, MatchBool, OnErr, filter, length, take};
+ghost use Rattle.std.specs.Prelude.{◌≡◌, ◌<◌, ◌≤◌, ◌-◌, ◌++◌, ◌∷◌, [], true, false, Ok, IfOk, MatchBool, OnErr, filter, length, take};
 ghost use mathlib.Core.List.{IsPrefix};
 ghost use Rattle.hk_wire.specs.LaterReplies.{reply_seen};
 ghost use Rattle.hk_link.specs.LaterReplying.{AreLetGo, TellsCome, TellsFirst, TellsMore};
@@ -53,7 +53,7 @@ impl<'a> Model for LinkState<'a> {
 
     ghost coded = { link_state_code hold.the_row.coded };
 
-    ghost view = { λ l. record { most = l.budget.now; giving = l.giving; came = l.came; holds = l.holds.items } };
+    ghost view = { λ l. record { most = l.budget.now; giving = l.giving; came = l.came; holds = l.holds.items; buffers = l.buffers } };
 
     ghost invariant = { λ l. l.pins ≡ length l.holds.items };
 }
@@ -90,7 +90,10 @@ impl<'a> LinkState<'a> {
     /// complete and of replies that aren't written, in place of what was reserved for such bytes before. Returns false where the budget
     /// has no room for them, and reserves then what it had.
     pub fn keep_bytes(&mut self, bytes: u64) -> bool
-        ensures { self.new ≡ self.old }
+        ensures same { self.new ≡ record self.old { buffers = self.new.buffers } }
+        ensures room { result ≡ true → self.new.buffers ≡ bytes }
+        ensures none { result ≡ false → self.new.buffers ≡ self.old.buffers }
+        ensures less { bytes ≤ self.old.buffers → result ≡ true }
     {
         let had = self.buffers.count();
         if bytes > had {
@@ -101,7 +104,7 @@ impl<'a> LinkState<'a> {
     }
 
     /// Asks for the release of each pin, one after the other, and of no other, and keeps just those that are still active. What is
-    /// sent and what came is dropped.
+    /// sent and what came is dropped, and nothing is reserved for what is between socket and session.
     pub(crate) fn release_all<H: NodeSide>(self, inner: &mut H) -> LinkState<'a>
         ensures asked { AreLetGo H.side.may_release inner.old self.entry.holds inner.new result.holds }
         ensures seen { IsPrefix (H.side.list inner.old) (H.side.list inner.new) }
@@ -114,7 +117,7 @@ impl<'a> LinkState<'a> {
             came: _,
             holds,
             mut pins,
-            buffers,
+            buffers: _,
         } = self;
         let count = holds.len();
         let holds = release_each(inner, holds);
@@ -126,7 +129,7 @@ impl<'a> LinkState<'a> {
             came: IncomingParts::new(alloc, budget),
             holds,
             pins,
-            buffers,
+            buffers: Room::none(&budget.bytes),
         }
     }
 
