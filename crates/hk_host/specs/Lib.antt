@@ -1,2 +1,4 @@
-pub mod Replying
+pub mod Faults
 pub mod Pins
+pub mod Replying
+pub mod Serving

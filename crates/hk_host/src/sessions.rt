@@ -2,7 +2,7 @@
 
 ghost use Rattle.std.specs.Prelude.{◌≡◌};
 ghost use mathlib.Core.List.{IsPrefix};
-ghost use Rattle.hk_net.specs.Serving.{Runs, ServesHost};
+ghost use Rattle.hk_host.specs.Serving.{Runs, ServesHost};
 
 use hk_link::{LinkState, NodeSide, PartsHost};
 use hk_session::{Counted, Ended, Waiter, serve, serve_waiting};

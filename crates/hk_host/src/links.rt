@@ -2,12 +2,12 @@
 
 ghost use Rattle.std.specs.Prelude.{◌≡◌, length, IfOk};
 
+use crate::fault::NetFault;
+use crate::node_host::NodeHost;
 use crate::sessions::serve_host;
-use hk_host::NodeHost;
 use hk_link::{LinkState, PartsBudget};
 use hk_node::{Node, NodeName, ReaderSeat};
 use hk_session::{AtOnce, Counted, Ended};
-use hk_workers::NetFault;
 use std::alloc::Global;
 use std::io::Read;
 use std::net::{Shutdown, TcpListener, TcpStream};

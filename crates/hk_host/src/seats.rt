@@ -3,10 +3,11 @@
 ghost use Rattle.std.specs.Prelude.{◌≡◌};
 ghost use Rattle.std.specs.Thread.{IsSync};
 ghost use mathlib.Core.List.{IsPrefix};
-ghost use Rattle.hk_net.specs.Serving.{ServesNode, ServesReader};
+ghost use Rattle.hk_host.specs.Serving.{ServesNode, ServesReader};
 
+use crate::node_host::NodeHost;
+use crate::seat_host::SeatHost;
 use crate::sessions::serve_plain;
-use hk_host::{NodeHost, SeatHost};
 use hk_node::{Node, NodeName, ReaderSeat};
 use hk_session::{Counted, Ended};
 use std::alloc::Global;

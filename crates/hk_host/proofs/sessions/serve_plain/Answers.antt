@@ -1,5 +1,5 @@
 use Rattle.hk_link.proofs.Seen.{goes_step}
-use Rattle.hk_net.proofs.sessions.serve_plain.Goals as goal
+use Rattle.hk_host.proofs.sessions.serve_plain.Goals as goal
 
 pub returns-clause-seen : goal.returns-clause-seen
 returns-clause-seen g c = let told = c.serve-ended.ensures.transcript in goes_step g.H.NodeSide.side g.H.Host.may c.laws.ensures _ _ _ _ told.0 _ told.2
