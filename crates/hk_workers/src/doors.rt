@@ -2,6 +2,7 @@
 
 use crate::sockets::Listener;
 use hk_doors::Passes;
+use hk_link::PartsBudget;
 use hk_node::{Node, NodeName};
 use std::net::TcpListener;
 use std::os::unix::net::UnixListener;
@@ -35,23 +36,37 @@ pub struct Door<'a, J: NodeName, N: Wait + Drop> {
     pub(crate) listener: Listener<'a>,
     pub(crate) way: Way<'a, J, N>,
     pub(crate) links: usize,
+    /// What its connections may make the node keep, with those of other doors that share it.
+    pub(crate) budget: &'a PartsBudget,
     pub(crate) tells_changes: bool,
 }
 
 impl<'a, J: NodeName, N: Wait + Drop> Door<'a, J, N> {
-    fn new(listener: Listener<'a>, way: Way<'a, J, N>, links: usize) -> Door<'a, J, N> {
+    fn new(
+        listener: Listener<'a>,
+        way: Way<'a, J, N>,
+        links: usize,
+        budget: &'a PartsBudget,
+    ) -> Door<'a, J, N> {
         Door {
             listener,
             way,
             links,
+            budget,
             tells_changes: false,
         }
     }
 
     /// At most so many connections of this listener at once answer every request, whether the node is guarded or not (see `Node` for
-    /// what a guarded one refuses). A further one waits to be accepted.
-    pub fn open(listener: &'a TcpListener, node: &'a Node<J, N>, links: usize) -> Door<'a, J, N> {
-        Door::new(Listener::Tcp(listener), Way::Open(node), links)
+    /// what a guarded one refuses). A further one waits to be accepted. What they make the node keep counts in this budget, with what
+    /// connections of other doors with the same budget do.
+    pub fn open(
+        listener: &'a TcpListener,
+        node: &'a Node<J, N>,
+        links: usize,
+        budget: &'a PartsBudget,
+    ) -> Door<'a, J, N> {
+        Door::new(Listener::Tcp(listener), Way::Open(node), links, budget)
     }
 
     /// The same at a Unix domain socket.
@@ -59,8 +74,9 @@ impl<'a, J: NodeName, N: Wait + Drop> Door<'a, J, N> {
         listener: &'a UnixListener,
         node: &'a Node<J, N>,
         links: usize,
+        budget: &'a PartsBudget,
     ) -> Door<'a, J, N> {
-        Door::new(Listener::Unix(listener), Way::Open(node), links)
+        Door::new(Listener::Unix(listener), Way::Open(node), links, budget)
     }
 
     /// At most so many connections of this listener at once answer Items, Feed and the requests that change nothing; another request
@@ -69,20 +85,29 @@ impl<'a, J: NodeName, N: Wait + Drop> Door<'a, J, N> {
         listener: &'a TcpListener,
         node: &'a Node<J, N>,
         links: usize,
+        budget: &'a PartsBudget,
     ) -> Door<'a, J, N> {
-        Door::new(Listener::Tcp(listener), Way::Feeding(node), links)
+        Door::new(Listener::Tcp(listener), Way::Feeding(node), links, budget)
     }
 
     /// At most so many connections of this listener at once answer the requests that change nothing: Front, Delta, Full and Ask; of
     /// version 2 Streams, AskLatest, Page, Whole, More and Await. Another request is refused with 4 as a kind that has no meaning there,
     /// and ends the connection, and so does with 2 a frame that is longer than all of these.
-    pub fn reading(listener: &'a TcpListener, links: usize) -> Door<'a, J, N> {
-        Door::new(Listener::Tcp(listener), Way::Reading, links)
+    pub fn reading(
+        listener: &'a TcpListener,
+        links: usize,
+        budget: &'a PartsBudget,
+    ) -> Door<'a, J, N> {
+        Door::new(Listener::Tcp(listener), Way::Reading, links, budget)
     }
 
     /// The same at a Unix domain socket.
-    pub fn reading_unix(listener: &'a UnixListener, links: usize) -> Door<'a, J, N> {
-        Door::new(Listener::Unix(listener), Way::Reading, links)
+    pub fn reading_unix(
+        listener: &'a UnixListener,
+        links: usize,
+        budget: &'a PartsBudget,
+    ) -> Door<'a, J, N> {
+        Door::new(Listener::Unix(listener), Way::Reading, links, budget)
     }
 
     /// The same door, of whose connections each change that takes effect is reported too.
@@ -99,6 +124,9 @@ pub struct Limits {
     /// Inside a frame no byte comes. The connection ends with 91, and so it does where a frame took more reads than its length
     /// explains: 64, and one more for each 64 bytes of its length.
     pub read_seconds: u64,
+    /// A frame that isn't complete 30 seconds after it began has to have brought so many bytes for each second since; else the connection
+    /// ends with 91. Time in which the connection isn't read, since it waits or its replies stand, doesn't count. 0: as slowly as it likes.
+    pub read_rate: u64,
     /// A reply isn't taken. The connection ends with 92.
     pub write_seconds: u64,
     /// Between two frames nothing comes, and nothing is waited for. The connection ends with 91.

@@ -7,7 +7,6 @@
 mod accepting;
 mod arrivals;
 mod doors;
-mod fault;
 mod link;
 mod links;
 mod places;
@@ -21,5 +20,4 @@ mod worker;
 mod writing;
 
 pub use doors::{Door, Limits};
-pub use fault::NetFault;
 pub use staying::serve_forever;

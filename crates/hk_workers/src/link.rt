@@ -3,7 +3,7 @@
 use crate::doors::Limits;
 use crate::sockets::Socket;
 use crate::waiting::Awaited;
-use crate::writing::Unwritten;
+use crate::writing::{MOST_HELD, Unwritten};
 use hk_doors::FrameWatch;
 use hk_link::LinkState;
 use hk_session::{Ended, Session};
@@ -14,6 +14,9 @@ use std::alloc::Global;
 const MOST_LINGERING: u64 = 2_000;
 
 const MOST_SILENT: u64 = 250;
+
+/// From how many milliseconds on a frame that isn't complete has to have brought as many bytes as its time asks for.
+const RATE_AFTER: u64 = 30_000;
 
 /// How many bytes are counted together where room is reserved for them.
 const COUNTED_BYTES: u64 = 4_096;
@@ -49,6 +52,8 @@ pub(crate) struct Link<'d, const LATEST: u8> {
     pub(crate) awaited: Option<Awaited>,
     /// When a byte came or went last, in milliseconds of the worker's clock.
     pub(crate) since: u64,
+    /// When the frame began that isn't complete, or its connection was read again last.
+    pub(crate) frame_since: u64,
     pub(crate) ended: Option<Ended>,
     /// A read may bring something.
     pub(crate) is_readable: bool,
@@ -91,6 +96,7 @@ impl<'d, const LATEST: u8> Link<'d, LATEST> {
             unwritten: Unwritten::new(alloc),
             awaited: None,
             since: now,
+            frame_since: now,
             ended: None,
             is_readable: true,
             is_special: false,
@@ -141,6 +147,15 @@ impl<'d, const LATEST: u8> Link<'d, LATEST> {
             self.reserved = bytes;
         } else {
             self.cut(Ended::Memory);
+            self.unwritten.drop_all();
+            self.rest = Vec::new(self.alloc);
+        }
+    }
+
+    /// The same at once where much stands, so that a reply for which there is no room is dropped before another one is made.
+    pub(crate) fn reserve_much(&mut self) {
+        if self.unwritten.len() > MOST_HELD {
+            self.reserve();
         }
     }
 
@@ -160,6 +175,13 @@ impl<'d, const LATEST: u8> Link<'d, LATEST> {
         }
     }
 
+    /// Whether the frame that isn't complete comes too slowly.
+    fn is_too_slow(&self, now: u64, limits: &Limits) -> bool {
+        let took = now.saturating_sub(self.frame_since);
+        let wanted = (took / 1_000).saturating_mul(limits.read_rate);
+        took >= RATE_AFTER && self.watch.held() < wanted
+    }
+
     /// How it ends where it did nothing for too long.
     pub(crate) fn over_time(&self, now: u64, limits: &Limits) -> Option<Ended> {
         let silent = now.saturating_sub(self.since);
@@ -173,6 +195,9 @@ impl<'d, const LATEST: u8> Link<'d, LATEST> {
         } else if self.awaited.is_some() {
             return None;
         } else if self.watch.is_within() {
+            if self.is_too_slow(now, limits) {
+                return Some(Ended::ReadFault);
+            }
             (limits.read_seconds, Ended::ReadFault)
         } else {
             (limits.idle_seconds, Ended::ReadFault)
@@ -189,6 +214,6 @@ impl<'d, const LATEST: u8> Link<'d, LATEST> {
         self.is_shut
             || limits.idle_seconds > 0
             || !self.unwritten.is_empty() && limits.write_seconds > 0
-            || self.watch.is_within() && limits.read_seconds > 0
+            || self.watch.is_within() && (limits.read_seconds > 0 || limits.read_rate > 0)
     }
 }

@@ -8,7 +8,6 @@ use crate::link::Link;
 use crate::shop::Shop;
 use crate::sockets::Accepted;
 use crate::turns::{Moment, Turn};
-use crate::waiting::Awaited;
 use crate::worker::Worker;
 use hk_host::{FeedHost, LinkEvent, NodeHost, SeatHost, Teller};
 use hk_link::LinkState;
@@ -25,29 +24,54 @@ use std::time::Duration;
 /// How many milliseconds pass before a wait that failed is tried again.
 const WAIT_PAUSE: u64 = 100;
 
-/// The milliseconds of a clock that never goes back.
-fn millis_of<R: Clock>(rt: &R, before: u64) -> u64 {
-    match rt.monotonic() {
-        Ok(time) => u64::try_from(time.as_millis())
-            .unwrap_or(before)
-            .max(before),
-        Err(_error) => before,
-    }
+/// A worker at its work: what all threads share, the sockets that it waits for, who is notified, and its connections.
+#[derive(Drop)]
+struct Serving<
+    'w,
+    'd,
+    J: NodeName + 'w,
+    N: Wait + Drop + 'w,
+    R: Threads + Wait + Clock + Sync + 'w,
+    const LATEST: u8,
+> {
+    rt: &'w R,
+    shop: &'w Shop<'d, J, N, LATEST>,
+    poll: Poll,
+    teller: Teller<'w>,
+    worker: Worker<'d, LATEST>,
 }
 
-impl<'d, const LATEST: u8> Worker<'d, LATEST> {
+impl<
+    'w,
+    'd,
+    J: NodeName + 'w,
+    N: Wait + Drop + 'w,
+    R: Threads + Wait + Clock + Sync + 'w,
+    const LATEST: u8,
+> Serving<'w, 'd, J, N, R, LATEST> {
+    /// Looks at the clock, which never goes back.
+    fn look_at_clock(&mut self) {
+        if let Ok(time) = self.rt.monotonic() {
+            let now = u64::try_from(time.as_millis()).unwrap_or(0);
+            self.worker.now = self.worker.now.max(now);
+        }
+    }
+
     /// The turn of a connection of a door, over a host of the seat, which is returned.
-    fn turn<J: NodeName, N: Wait + Drop, R: Threads + Wait + Sync>(
+    fn turn(
         &mut self,
-        rt: &R,
         door: &Door<'_, J, N>,
         moment: Moment,
         link: &mut Link<'d, LATEST>,
-        teller: &Teller<'_>,
         seat: ReaderSeat<J>,
     ) -> (Turn, ReaderSeat<J>) {
-        let alloc = self.alloc;
-        let (piece, out, left) = (&mut self.piece, &mut self.out, &mut self.left);
+        let (rt, alloc, teller) = (self.rt, self.worker.alloc, &self.teller);
+        let Worker {
+            piece,
+            out,
+            left,
+            ..
+        } = &mut self.worker;
         match &door.way {
             Way::Open(node) => {
                 let host = NodeHost::telling(rt, alloc, node, seat, teller);
@@ -68,245 +92,176 @@ impl<'d, const LATEST: u8> Worker<'d, LATEST> {
     }
 
     /// Ends a connection: its socket is closed, and its slot is free.
-    fn close<J: NodeName, N: Wait + Drop, R: Wait>(
-        &mut self,
-        rt: &R,
-        shop: &Shop<'d, J, N, LATEST>,
-        token: usize,
-        link: Box<Link<'d, LATEST>, Global>,
-        teller: &Teller<'_>,
-    ) {
+    fn close(&mut self, token: usize, link: Box<Link<'d, LATEST>, Global>) {
         let (ended, door, place) = (link.end(), link.door, link.place);
         drop(link);
-        self.links.free(token);
-        teller.tell(rt, LinkEvent::Ended(ended));
-        shop.give_back(rt, door, place);
+        self.worker.links.free(token);
+        self.teller.tell(self.rt, LinkEvent::Ended(ended));
+        self.shop.give_back(self.rt, door, place);
     }
 
-    /// Has a connection wait until a number is readable, or so many milliseconds are over. Where memory runs out for that it is
-    /// answered at once.
-    fn park(&mut self, token: usize, link: &mut Link<'d, LATEST>, number: u64, milliseconds: u32) {
-        // The clock's milliseconds are whole: one more, so that it waits no less.
-        let until = self
-            .now
-            .saturating_add(u64::from(milliseconds))
-            .saturating_add(1);
-        let awaited = Awaited { number, until };
-        if self.waiting.add(token, awaited).is_ok() {
-            link.awaited = Some(awaited);
-        } else {
-            link.has_waited = true;
-        }
+    /// Closes a connection that has no token, for want of memory.
+    fn refuse(&mut self, door: usize, place: usize) {
+        self.teller.turn_to(place, false);
+        self.teller.tell(self.rt, LinkEvent::Ended(Ended::Memory));
+        self.shop.give_back(self.rt, door, place);
     }
 
     /// Leaves a connection for a worker that gives long answers. Where that can't be done it ends.
-    fn hand_over<J: NodeName, N: Wait + Drop, R: Wait>(
-        &mut self,
-        rt: &R,
-        shop: &Shop<'d, J, N, LATEST>,
-        poll: &Poll,
-        token: usize,
-        link: Box<Link<'d, LATEST>, Global>,
-        seen: Receipt<J>,
-    ) {
+    fn hand_over(&mut self, token: usize, link: Box<Link<'d, LATEST>, Global>, seen: Receipt<J>) {
         let mut link = link;
-        let worker = shop.long_worker(link.place);
-        let is_free = link.socket.deregister(poll.registry()).is_ok();
-        let inbox = worker.and_then(|it| shop.inboxes.get(it));
+        link.end_round(self.worker.now);
+        let worker = self.shop.long_worker(link.place);
+        let is_free = !link.is_cut && link.socket.deregister(self.poll.registry()).is_ok();
+        let inbox = worker.and_then(|it| self.shop.inboxes.get(it));
         let (Some(worker), Some(inbox), true) = (worker, inbox, is_free) else {
-            self.cut(token, link);
+            self.worker.cut(token, link);
             return;
         };
-        match inbox.leave(rt, Arrival::Moved { link, seen }) {
+        match inbox.leave(self.rt, Arrival::Moved { link, seen }) {
             Ok(()) => {
-                self.links.free(token);
-                shop.bell.wake(worker);
+                self.worker.links.free(token);
+                self.shop.bell.wake(worker);
             }
-            Err(Arrival::Moved { link, .. }) => self.cut(token, link),
+            Err(Arrival::Moved { link, .. }) => self.worker.cut(token, link),
             Err(Arrival::Opened { .. }) => {}
         }
     }
 
-    /// Ends a connection as it is, at its next turn.
-    fn cut(&mut self, token: usize, link: Box<Link<'d, LATEST>, Global>) {
-        let mut link = link;
-        link.cut(Ended::Memory);
-        self.links.put(token, link);
-        self.links.list(token);
-    }
-
     /// What a connection knows as it has its turn.
-    fn moment<J: NodeName, N: Wait + Drop>(
-        &self,
-        shop: &Shop<'d, J, N, LATEST>,
-        door: &Door<'_, J, N>,
-    ) -> Moment {
+    fn moment(&self, door: &Door<'_, J, N>) -> Moment {
         Moment {
             passes: door.way.passes(),
-            is_at_long_end: shop.is_at_long_end(self.number),
-            counts_reads: shop.limits.read_seconds > 0,
-            readable: shop.bell.readable(),
-            now: self.now,
+            is_at_long_end: self.shop.is_at_long_end(self.worker.number),
+            counts_reads: self.shop.limits.read_seconds > 0,
+            lets_go: !self.worker.has_freed,
+            readable: self.shop.bell.readable(),
+            now: self.worker.now,
         }
     }
 
-    /// Gives the connection under a token its turn.
-    fn serve<J: NodeName, N: Wait + Drop, R: Threads + Wait + Clock + Sync>(
+    /// Does what a connection wants after its turn.
+    fn settle(
         &mut self,
-        rt: &R,
-        shop: &Shop<'d, J, N, LATEST>,
-        poll: &Poll,
         token: usize,
-        teller: &mut Teller<'_>,
-        seat: ReaderSeat<J>,
-    ) -> ReaderSeat<J> {
-        let Some(mut link) = self.links.take(token) else {
-            return seat;
-        };
-        let Some(door) = shop.doors.get(link.door) else {
-            return seat;
-        };
-        link.is_listed = false;
-        self.now = millis_of(rt, self.now);
-        let moment = self.moment(shop, door);
-        if let Some(awaited) = link.awaited {
-            if link.write_waiting(moment) {
-                self.links.put(token, link);
-                return seat;
-            }
-            link.awaited = None;
-            self.waiting.remove(token, awaited);
-        }
-        teller.turn_to(link.place, door.tells_changes);
-        let (turn, seat) = self.turn(rt, door, moment, &mut link, teller, seat);
-        self.is_timed = self.is_timed || link.is_timed(&shop.limits);
+        turn: Turn,
+        link: Box<Link<'d, LATEST>, Global>,
+        seat: &ReaderSeat<J>,
+    ) {
         match turn {
-            Turn::Over => self.close(rt, shop, token, link, teller),
-            Turn::Moves => self.hand_over(rt, shop, poll, token, link, seat.receipt()),
-            Turn::Waits => self.links.put(token, link),
-            Turn::Again => {
-                self.links.put(token, link);
-                self.links.list(token);
+            Turn::Over => self.close(token, link),
+            Turn::Moves => self.hand_over(token, link, seat.receipt()),
+            Turn::Waits => self.worker.links.put(token, link),
+            Turn::Again => self.worker.put_listed(token, link),
+            Turn::Freed => {
+                self.worker.has_freed = true;
+                self.worker.put_listed(token, link);
             }
             Turn::Parks {
                 number,
                 milliseconds,
-            } => {
-                self.park(token, &mut link, number, milliseconds);
-                let has_waited = link.has_waited;
-                self.links.put(token, link);
-                if has_waited {
-                    self.links.list(token);
-                }
-            }
+            } => self.worker.park(token, link, number, milliseconds),
         }
+    }
+
+    /// Gives the connection under a token its turn.
+    fn serve(&mut self, token: usize, seat: ReaderSeat<J>) -> ReaderSeat<J> {
+        let Some(mut link) = self.worker.links.take(token) else {
+            return seat;
+        };
+        let Some(door) = self.shop.doors.get(link.door) else {
+            return seat;
+        };
+        link.is_listed = false;
+        self.look_at_clock();
+        let moment = self.moment(door);
+        if let Some(awaited) = link.awaited {
+            if !link.is_cut {
+                self.worker.links.put(token, link);
+                return seat;
+            }
+            link.awaited = None;
+            self.worker.waiting.remove(token, awaited);
+        }
+        self.teller.turn_to(link.place, door.tells_changes);
+        let (turn, seat) = self.turn(door, moment, &mut link, seat);
+        self.settle(token, turn, link, &seat);
         seat
     }
 
-    /// Gives each connection that is listed its turn.
-    fn take_turns<J: NodeName, N: Wait + Drop, R: Threads + Wait + Clock + Sync>(
-        &mut self,
-        rt: &R,
-        shop: &Shop<'d, J, N, LATEST>,
-        poll: &Poll,
-        teller: &mut Teller<'_>,
-        seat: ReaderSeat<J>,
-    ) -> ReaderSeat<J> {
+    /// Gives each connection that is listed its turn, and then writes their replies: a peer that has several connections is woken once.
+    fn take_turns(&mut self, seat: ReaderSeat<J>) -> ReaderSeat<J> {
         let mut seat = seat;
-        for at in 0..self.links.begin_round() {
-            if let Some(token) = self.links.in_round(at) {
-                seat = self.serve(rt, shop, poll, token, teller, seat);
+        self.worker.has_freed = false;
+        let count = self.worker.links.begin_round();
+        for at in 0..count {
+            if let Some(token) = self.worker.links.in_round(at) {
+                seat = self.serve(token, seat);
             }
         }
-        shop.bell.expect(self.number, self.waiting.least_number());
+        self.worker.end_round(count, &self.shop.limits);
+        let least = self.worker.waiting.least_number();
+        self.shop.bell.expect(self.worker.number, least);
         seat
+    }
+
+    /// What a connection of a door keeps at first: pins that others left, where it may release them, else nothing.
+    fn first_kept(&mut self, door: &Door<'d, J, N>) -> LinkState<'d> {
+        let left = match door.way {
+            Way::Open(_) => self.worker.left.pop(),
+            Way::Feeding(_) | Way::Reading => None,
+        };
+        left.unwrap_or_else(|| LinkState::new(self.worker.alloc, door.budget))
     }
 
     /// Takes in a connection that was accepted. Where that fails it is closed.
-    fn open<J: NodeName, N: Wait + Drop, R: Wait>(
-        &mut self,
-        rt: &R,
-        shop: &Shop<'d, J, N, LATEST>,
-        poll: &Poll,
-        accepted: Accepted,
-        door: usize,
-        place: usize,
-        teller: &mut Teller<'_>,
-    ) {
+    fn open(&mut self, accepted: Accepted, door: usize, place: usize) {
+        let (alloc, now) = (self.worker.alloc, self.worker.now);
         let link = match accepted.into_socket() {
-            Ok(socket) => {
-                let link = Link::new(self.alloc, socket, door, place, self.now);
-                Box::new(self.alloc, link).ok()
-            }
+            Ok(socket) => Box::new(alloc, Link::new(alloc, socket, door, place, now)).ok(),
             Err(_error) => None,
         };
         let Some(mut link) = link else {
-            teller.turn_to(place, false);
-            teller.tell(rt, LinkEvent::Ended(Ended::Memory));
-            shop.give_back(rt, door, place);
+            self.refuse(door, place);
             return;
         };
-        let left = match shop.doors.get(door) {
-            Some(
-                Door {
-                    way: Way::Open(_),
-                    ..
-                },
-            ) => self.left.pop(),
-            _ => None,
-        };
-        let kept = left.unwrap_or_else(|| LinkState::new(self.alloc, shop.budget));
-        link.kept = Some(kept);
-        self.enter(rt, shop, poll, link, teller);
+        if let Some(door) = self.shop.doors.get(door) {
+            link.kept = Some(self.first_kept(door));
+        }
+        self.enter(link);
     }
 
     /// Takes in a connection. Where there is no memory for it, it is closed.
-    fn enter<J: NodeName, N: Wait + Drop, R: Wait>(
-        &mut self,
-        rt: &R,
-        shop: &Shop<'d, J, N, LATEST>,
-        poll: &Poll,
-        link: Box<Link<'d, LATEST>, Global>,
-        teller: &mut Teller<'_>,
-    ) {
+    fn enter(&mut self, link: Box<Link<'d, LATEST>, Global>) {
         let mut link = link;
-        let Ok(token) = self.links.new_token() else {
-            teller.turn_to(link.place, false);
-            teller.tell(rt, LinkEvent::Ended(Ended::Memory));
-            shop.give_back(rt, link.door, link.place);
+        let Ok(token) = self.worker.links.new_token() else {
+            self.refuse(link.door, link.place);
             return;
         };
         link.is_listed = false;
-        if link.socket.register(poll.registry(), Token(token)).is_err() {
+        let registry = self.poll.registry();
+        if link.socket.register(registry, Token(token)).is_err() {
             link.cut(Ended::Memory);
         }
-        self.links.put(token, link);
-        self.links.list(token);
+        self.worker.put_listed(token, link);
     }
 
     /// Takes in what others left.
-    fn take_arrivals<J: NodeName, N: Wait + Drop, R: Wait>(
-        &mut self,
-        rt: &R,
-        shop: &Shop<'d, J, N, LATEST>,
-        poll: &Poll,
-        teller: &mut Teller<'_>,
-        seat: ReaderSeat<J>,
-    ) -> ReaderSeat<J> {
+    fn take_arrivals(&mut self, seat: ReaderSeat<J>) -> ReaderSeat<J> {
         let mut seat = seat;
-        let Some(inbox) = shop.inboxes.get(self.number) else {
+        let Some(inbox) = self.shop.inboxes.get(self.worker.number) else {
             return seat;
         };
-        for arrival in inbox.take_all(rt, self.alloc) {
+        for arrival in inbox.take_all(self.rt, self.worker.alloc) {
             match arrival {
                 Arrival::Opened {
                     accepted,
                     door,
                     place,
-                } => self.open(rt, shop, poll, accepted, door, place, teller),
+                } => self.open(accepted, door, place),
                 Arrival::Moved { link, seen } => {
                     seat.learn(seen);
-                    self.enter(rt, shop, poll, link, teller);
+                    self.enter(link);
                 }
             }
         }
@@ -314,51 +269,50 @@ impl<'d, const LATEST: u8> Worker<'d, LATEST> {
     }
 
     /// One round: what the system said, what others left, who waited long enough, and the turns of those that can go on.
-    fn round<J: NodeName, N: Wait + Drop, R: Threads + Wait + Clock + Sync>(
-        &mut self,
-        rt: &R,
-        shop: &Shop<'d, J, N, LATEST>,
-        poll: &Poll,
-        events: &Events,
-        teller: &mut Teller<'_>,
-        seat: ReaderSeat<J>,
-    ) -> ReaderSeat<J> {
+    fn round(&mut self, events: &Events, seat: ReaderSeat<J>) -> ReaderSeat<J> {
         let mut seat = seat;
-        self.now = millis_of(rt, self.now);
-        if self.take_events(events) {
-            seat = self.take_arrivals(rt, shop, poll, teller, seat);
+        self.look_at_clock();
+        if self.worker.take_events(events) {
+            seat = self.take_arrivals(seat);
         }
-        self.wake_due(shop.bell.readable());
-        self.look_at_limits(shop);
-        self.take_turns(rt, shop, poll, teller, seat)
+        self.worker.wake_due(self.shop.bell.readable());
+        self.worker.look_at_limits(&self.shop.limits);
+        self.take_turns(seat)
     }
 }
 
 /// Serves connections without an end, by a worker of this number.
 pub(crate) fn serve_worker<
-    'd,
+    'w,
     J: NodeName,
     N: Wait + Drop,
     R: Threads + Wait + Clock + Sync,
     const LATEST: u8,
 >(
-    rt: &R,
+    rt: &'w R,
     alloc: Global,
     number: usize,
-    shop: &Shop<'d, J, N, LATEST>,
+    shop: &'w Shop<'_, J, N, LATEST>,
     poll: Poll,
     events: Events,
     piece: Vec<u8>,
-    teller: Teller<'_>,
+    teller: Teller<'w>,
     seat: ReaderSeat<J>,
 ) {
-    let (mut poll, mut events, mut teller, mut seat) = (poll, events, teller, seat);
-    let mut worker: Worker<'d, LATEST> = Worker::new(alloc, number, piece);
+    let (mut events, mut seat) = (events, seat);
+    let worker = Worker::new(alloc, number, piece);
+    let mut serving = Serving {
+        rt,
+        shop,
+        poll,
+        teller,
+        worker,
+    };
     for _ in rt.forever() {
-        let time_out = worker.time_out(shop.bell.readable());
-        if poll.poll(&mut events, time_out).is_err() {
+        let time_out = serving.worker.time_out(shop.bell.readable());
+        if serving.poll.poll(&mut events, time_out).is_err() {
             thread::sleep(rt, Duration::from_millis(WAIT_PAUSE));
         }
-        seat = worker.round(rt, shop, &poll, &events, &mut teller, seat);
+        seat = serving.round(&events, seat);
     }
 }

@@ -4,7 +4,6 @@ use crate::arrivals::Inbox;
 use crate::doors::{Door, Limits};
 use crate::places::Places;
 use hk_host::Bell;
-use hk_link::PartsBudget;
 use hk_node::NodeName;
 use std::sync::Wait;
 use std::sync::atomic::{AtomicU64, Ordering};
@@ -19,8 +18,6 @@ pub(crate) struct Shop<'d, J: NodeName, N: Wait + Drop, const LATEST: u8> {
     pub(crate) inboxes: Vec<Inbox<'d, J, LATEST>>,
     /// What wakes each of them.
     pub(crate) bell: Bell,
-    /// What all connections keep.
-    pub(crate) budget: &'d PartsBudget,
     pub(crate) limits: Limits,
     /// Which workers have a thread, a bit for each.
     pub(crate) running: AtomicU64,

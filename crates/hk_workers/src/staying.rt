@@ -6,14 +6,12 @@ ghost use Rattle.std.specs.Thread.{IsSend, IsSync};
 use crate::accepting::accept_all;
 use crate::arrivals::Inbox;
 use crate::doors::{Door, Limits};
-use crate::fault::NetFault;
 use crate::places::Places;
 use crate::serving::serve_worker;
 use crate::shop::Shop;
 use crate::worker::{PIECE, WAKER};
 use crossbeam_channel::{Sender, bounded};
-use hk_host::{Bell, EVENTS, LinkEvent, Teller, Watch, hand_on};
-use hk_link::PartsBudget;
+use hk_host::{Bell, EVENTS, LinkEvent, NetFault, Teller, Watch, hand_on};
 use hk_node::{NodeName, ReaderSeat};
 use mio::{Events, Poll, Token, Waker};
 use std::alloc::{AllocError, Global};
@@ -214,7 +212,6 @@ fn serve_in<
     alloc: Global,
     doors: Vec<Door<'d, J, N>>,
     seats: Vec<ReaderSeat<J>>,
-    budget: &'d PartsBudget,
     limits: Limits,
     watch: &mut T,
 ) -> Result<(), NetFault> {
@@ -233,7 +230,6 @@ fn serve_in<
         places,
         inboxes,
         bell,
-        budget,
         limits,
         running: AtomicU64::new(0),
     };
@@ -248,7 +244,8 @@ fn serve_in<
 /// connections that ask for something long, and what a change holds up are those of its worker.
 ///
 /// A connection is read, and its next request answered, only while at most 65,536 bytes of its replies stand unwritten. It is answered in
-/// version 1, or where `in_both` says so in both versions. All connections keep at most as many bytes as the budget has. When a
+/// version 1, or where `in_both` says so in both versions. Connections keep at most as many bytes as the budgets of their doors
+/// have. When a
 /// session ends, the release of each of its pins is asked for; a pin whose release is refused then (`Damaged`, `NodeFull` or
 /// `Memory`) stays active, and is handed to the next connection of the worker that may release pins. An Await takes a place in a list, and
 /// no thread.
@@ -269,14 +266,13 @@ pub fn serve_forever<
     alloc: Global,
     doors: Vec<Door<'d, J, N>>,
     seats: Vec<ReaderSeat<J>>,
-    budget: &'d PartsBudget,
     in_both: bool,
     limits: Limits,
     watch: &mut T,
 ) -> Result<(), NetFault> {
     if in_both {
-        serve_in::<J, N, R, T, 2>(rt, alloc, doors, seats, budget, limits, watch)
+        serve_in::<J, N, R, T, 2>(rt, alloc, doors, seats, limits, watch)
     } else {
-        serve_in::<J, N, R, T, 1>(rt, alloc, doors, seats, budget, limits, watch)
+        serve_in::<J, N, R, T, 1>(rt, alloc, doors, seats, limits, watch)
     }
 }

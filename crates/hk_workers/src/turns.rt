@@ -13,6 +13,9 @@ use std::mem;
 /// How often a connection is read in one turn at most.
 const MOST_READS: u32 = 16;
 
+/// A worker ends one connection in a round that has more pins than these, since it asks for the release of each.
+const FEW_PINS: usize = 16;
+
 /// What a worker knows as a connection has its turn.
 #[derive(Clone, Copy)]
 pub(crate) struct Moment {
@@ -22,6 +25,8 @@ pub(crate) struct Moment {
     pub(crate) is_at_long_end: bool,
     /// Whether a frame may take only so many reads.
     pub(crate) counts_reads: bool,
+    /// Whether a connection with many pins may end.
+    pub(crate) lets_go: bool,
     /// The number of the greatest time that is known to be readable.
     pub(crate) readable: u64,
     /// The worker's clock, in milliseconds.
@@ -35,6 +40,8 @@ pub(crate) enum Turn {
     Waits,
     /// There is more to do, after the others.
     Again,
+    /// The same, after the release of many pins.
+    Freed,
     /// Its next request is an Await: until this number is readable, or so many milliseconds are over.
     Parks { number: u64, milliseconds: u32 },
     /// Its next request is for a worker that gives long answers.
@@ -50,15 +57,6 @@ impl<'d, const LATEST: u8> Link<'d, LATEST> {
             Turn::Again
         } else {
             Turn::Waits
-        }
-    }
-
-    /// What it does next that can't be read now.
-    fn until_read(&self) -> Turn {
-        if self.unwritten.is_empty() {
-            Turn::Waits
-        } else {
-            self.until_written()
         }
     }
 
@@ -122,7 +120,13 @@ impl<'d, const LATEST: u8> Link<'d, LATEST> {
                 if count < piece.len() - begun && !self.is_special {
                     self.is_readable = false;
                 }
-                Some(self.take_in(moment, &mut piece[..begun + count], out, host))
+                let step = self.take_in(moment, &mut piece[..begun + count], out, host);
+                // The frame that isn't complete, or that is for another worker, began with these bytes.
+                let held = self.watch.held().saturating_add(self.rest.len() as u64);
+                if held <= count as u64 {
+                    self.frame_since = moment.now;
+                }
+                Some(step)
             }
             Err(error) => match error.kind() {
                 ErrorKind::WouldBlock => {
@@ -194,23 +198,27 @@ impl<'d, const LATEST: u8> Link<'d, LATEST> {
         !moment.is_at_long_end && !self.rest.is_empty() && !self.is_full && !self.has_waited
     }
 
-    /// Writes what stands. Returns false where the socket failed.
-    fn write(&mut self, moment: Moment) -> bool {
-        let before = self.unwritten.len();
-        let is_well = self.unwritten.write(&self.socket);
-        if self.unwritten.len() < before {
-            self.since = moment.now;
+    /// Writes what stands. Where the socket failed the connection ends.
+    pub(crate) fn write(&mut self, now: u64) {
+        if self.is_cut {
+            return;
         }
-        is_well
-    }
-
-    /// Writes what stands of a connection that waits by an Await. Returns false where it has to end.
-    pub(crate) fn write_waiting(&mut self, moment: Moment) -> bool {
-        if !self.is_cut && !self.write(moment) {
+        let before = self.unwritten.len();
+        if !self.unwritten.write(&self.socket) {
             self.cut(Ended::WriteFault);
         }
+        if self.unwritten.len() < before {
+            self.since = now;
+            self.frame_since = now;
+        }
+    }
+
+    /// Writes what stands after the turns of a round, and reserves room for what still does. Returns whether the connection has a turn
+    /// in the next one.
+    pub(crate) fn end_round(&mut self, now: u64) -> bool {
+        self.write(now);
         self.reserve();
-        !self.is_cut
+        self.is_cut || !self.unwritten.is_empty() && self.unwritten.is_writable()
     }
 
     /// One after the other what can be done now, until the session ends.
@@ -232,13 +240,14 @@ impl<'d, const LATEST: u8> Link<'d, LATEST> {
                 return Turn::Moves;
             }
             let Some(step) = self.step(moment, piece, out, host) else {
-                return self.until_read();
+                return Turn::Waits;
             };
             let turn = self.note_step(step, moment.readable);
             if !out.is_empty() {
                 self.since = moment.now;
             }
-            if !self.unwritten.put(&self.socket, out) {
+            let is_put = self.unwritten.put(&self.socket, out, moment.is_at_long_end);
+            if !is_put {
                 self.cut(Ended::WriteFault);
             }
             if self.ended.is_some() {
@@ -295,14 +304,13 @@ impl<'d, const LATEST: u8> Link<'d, LATEST> {
 
     /// Keeps what is left of a session that has ended: pins that the node handed back are others' from now on.
     fn let_go(&mut self, state: LinkState<'d>, left: &mut Vec<LinkState<'d>>) {
-        let mut state = state;
         self.has_let_go = true;
+        self.reserved = 0;
         if state.hold_count() == 0 {
             self.kept = Some(state);
-            self.reserve();
+            self.reserve_much();
             return;
         }
-        state.keep_bytes(0);
         // Where memory runs out the pins stay in the node.
         let _kept = left.push(state);
     }
@@ -319,17 +327,13 @@ impl<'d, const LATEST: u8> Link<'d, LATEST> {
     ) -> (Turn, H)
         requires { H.ready host }
     {
-        if !self.write(moment) {
-            self.cut(Ended::WriteFault);
-        }
+        self.write(moment.now);
         let Some(kept) = self.kept.take() else {
             return (self.linger(moment, piece), host);
         };
         if self.has_let_go {
-            let turn = self.linger(moment, piece);
             self.kept = Some(kept);
-            self.reserve();
-            return (turn, host);
+            return (self.linger(moment, piece), host);
         }
         let mut both = PartsHost::new(host, kept);
         if self.ended.is_none() {
@@ -337,12 +341,19 @@ impl<'d, const LATEST: u8> Link<'d, LATEST> {
             if self.ended.is_none() {
                 let (host, kept) = both.into_parts();
                 self.kept = Some(kept);
-                self.reserve();
+                self.reserve_much();
                 return (self.unless_cut(turn), host);
             }
         }
-        let (host, state) = both.end();
+        let (host, kept) = both.into_parts();
+        let has_many = kept.hold_count() > FEW_PINS;
+        if has_many && !moment.lets_go {
+            self.kept = Some(kept);
+            return (Turn::Again, host);
+        }
+        let (host, state) = PartsHost::new(host, kept).end();
         self.let_go(state, left);
-        (Turn::Again, host)
+        let turn = if has_many { Turn::Freed } else { Turn::Again };
+        (turn, host)
     }
 }

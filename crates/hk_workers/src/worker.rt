@@ -1,14 +1,13 @@
 //! A worker's connections, which of them wait, and its clock.
 
-use crate::link::Readiness;
+use crate::doors::Limits;
+use crate::link::{Link, Readiness};
 use crate::links::Links;
-use crate::shop::Shop;
-use crate::waiting::Waiting;
+use crate::waiting::{Awaited, Waiting};
 use hk_link::LinkState;
-use hk_node::NodeName;
+use hk_session::Ended;
 use mio::Events;
 use std::alloc::Global;
-use std::sync::Wait;
 use std::time::Duration;
 
 /// The token of a worker's waker; connections have those from 0 on.
@@ -35,6 +34,8 @@ pub(crate) struct Worker<'d, const LATEST: u8> {
     pub(crate) now: u64,
     look: u64,
     pub(crate) is_timed: bool,
+    /// Whether a connection with many pins ended in this round.
+    pub(crate) has_freed: bool,
 }
 
 impl<'d, const LATEST: u8> Worker<'d, LATEST> {
@@ -51,6 +52,7 @@ impl<'d, const LATEST: u8> Worker<'d, LATEST> {
             now: 0,
             look: 0,
             is_timed: false,
+            has_freed: false,
         }
     }
 
@@ -106,15 +108,30 @@ impl<'d, const LATEST: u8> Worker<'d, LATEST> {
             }
             link.has_waited = true;
             link.since = self.now;
+            link.frame_since = self.now;
             self.links.list(token);
         }
     }
 
+    /// Writes the replies of the connections that had their turn, as many as there were.
+    pub(crate) fn end_round(&mut self, count: usize, limits: &Limits) {
+        for at in 0..count {
+            let Some(token) = self.links.in_round(at) else {
+                continue;
+            };
+            let Some(link) = self.links.get_mut(token) else {
+                continue;
+            };
+            let has_turn = link.end_round(self.now);
+            self.is_timed = self.is_timed || link.is_timed(limits);
+            if has_turn {
+                self.links.list(token);
+            }
+        }
+    }
+
     /// Ends the connections that did nothing for too long, once it is time to look at that again.
-    pub(crate) fn look_at_limits<J: NodeName, N: Wait + Drop>(
-        &mut self,
-        shop: &Shop<'d, J, N, LATEST>,
-    ) {
+    pub(crate) fn look_at_limits(&mut self, limits: &Limits) {
         if !self.is_timed || self.now < self.look {
             return;
         }
@@ -124,12 +141,50 @@ impl<'d, const LATEST: u8> Worker<'d, LATEST> {
             let Some(link) = self.links.get_mut(token) else {
                 continue;
             };
-            is_timed = is_timed || link.is_timed(&shop.limits);
-            if let Some(ended) = link.over_time(self.now, &shop.limits) {
+            is_timed = is_timed || link.is_timed(limits);
+            if let Some(ended) = link.over_time(self.now, limits) {
                 link.cut(ended);
                 self.links.list(token);
             }
         }
         self.is_timed = is_timed;
+    }
+
+    /// Puts a connection under its token, with a turn in the next round.
+    pub(crate) fn put_listed(&mut self, token: usize, link: Box<Link<'d, LATEST>, Global>) {
+        self.links.put(token, link);
+        self.links.list(token);
+    }
+
+    /// Ends a connection as it is, at its next turn.
+    pub(crate) fn cut(&mut self, token: usize, link: Box<Link<'d, LATEST>, Global>) {
+        let mut link = link;
+        link.cut(Ended::Memory);
+        self.put_listed(token, link);
+    }
+
+    /// Has a connection wait until a number is readable, or so many milliseconds are over. Where memory runs out for that it is
+    /// answered at once.
+    pub(crate) fn park(
+        &mut self,
+        token: usize,
+        link: Box<Link<'d, LATEST>, Global>,
+        number: u64,
+        milliseconds: u32,
+    ) {
+        let mut link = link;
+        // The clock's milliseconds are whole: one more, so that it waits no less.
+        let until = self
+            .now
+            .saturating_add(u64::from(milliseconds))
+            .saturating_add(1);
+        let awaited = Awaited { number, until };
+        if self.waiting.add(token, awaited).is_ok() {
+            link.awaited = Some(awaited);
+            self.links.put(token, link);
+        } else {
+            link.has_waited = true;
+            self.put_listed(token, link);
+        }
     }
 }

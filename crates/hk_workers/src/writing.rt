@@ -112,6 +112,12 @@ impl Unwritten {
         true
     }
 
+    /// Drops what stands.
+    pub(crate) fn drop_all(&mut self) {
+        self.bytes = Vec::new(self.alloc);
+        self.written = 0;
+    }
+
     /// Writes what stands, as far as the socket takes it now. Returns false where the socket failed.
     pub(crate) fn write(&mut self, socket: &Socket) -> bool {
         if self.is_empty() {
@@ -135,13 +141,17 @@ impl Unwritten {
         self.bytes.extend_from_slice(out).is_ok()
     }
 
-    /// Writes what a step added, behind what stands, and empties it; what the socket doesn't take now stands. Returns false where the
-    /// socket failed, or memory ran out for what stands.
-    pub(crate) fn put(&mut self, socket: &Socket, out: &mut Vec<u8>) -> bool {
+    /// Puts what a step added behind what stands, and empties it. What is long, or is wanted `at_once`, is written as far as the socket
+    /// takes it now. Returns false where the socket failed, or memory ran out for what stands.
+    pub(crate) fn put(&mut self, socket: &Socket, out: &mut Vec<u8>, at_once: bool) -> bool {
         if out.is_empty() {
             return true;
         }
-        let is_well = if self.is_empty() {
+        let is_written = at_once || out.len() > MOST_HELD;
+        if is_written && !self.write(socket) {
+            return false;
+        }
+        let is_well = if is_written && self.is_empty() {
             self.put_first(socket, out)
         } else {
             self.put_behind(out)
@@ -154,7 +164,7 @@ impl Unwritten {
         is_well
     }
 
-    /// The same where nothing stands. What is long isn't copied: it stands where it is.
+    /// Writes what a step added where nothing stands. What is long isn't copied: it stands where it is.
     fn put_first(&mut self, socket: &Socket, out: &mut Vec<u8>) -> bool {
         let wrote = write_some(socket, out);
         match wrote {
