@@ -4,8 +4,8 @@ BASH = """# hkrep: the commands and their options, made from `hkrep --help`
 _hkrep() {{
     local word=${{COMP_WORDS[COMP_CWORD]}} before=${{COMP_WORDS[COMP_CWORD-1]}} words=
     COMPREPLY=()
-    case $before in
-        {valued}|'<'|'>') return ;;
+    case "${{COMP_WORDS[1]}} $before" in
+        {valued}|*' <'|*' >') return ;;
     esac
     if [ "$COMP_CWORD" -eq 1 ]; then
         words='{first}'
@@ -58,7 +58,8 @@ def words_of(help_):
 
 def bash(whole):
     names = [it.words[-1] for it in whole.below]
-    valued = sorted({flag for it in whole.below for option in options(it) if option.value() for flag in option.flags()})
+    # by command, since --wait has a value behind one and none behind another
+    valued = sorted({quoted(f"{it.words[-1]} {flag}") for it in whole.below for option in options(it) if option.value() for flag in option.flags()})
     cases = [f"            {it.words[-1]}) words='{' '.join(words_of(it))}' ;;" for it in whole.below]
     cases.append(f"            help) words='{' '.join(names)}' ;;")
     return BASH.format(valued="|".join(valued), first=" ".join(words_of(whole)), cases="\n".join(cases))

@@ -568,12 +568,37 @@ def waited_fronts():
     report("a front that is waited for", differ(pairs))
 
 
+def waited_answers():
+    """`ask --at TIME --wait` answers once its time can be read, whichever of them stands before the query, by several requests where that is late; who can't wait is told why."""
+    query = ["get", 1, 5]
+    with Staying(5, "--messages", "2") as node, Node(1) as plain:
+        asked = (["--at", 5, "--wait", *query], [*query, "--at", 5, "--wait"], ["--wait", 5, *query], ["--json", "--at", 5, *query, "--wait"])
+        with node.link() as link:
+            waiting = [begun("ask", "--port", node.port, *words) for words in asked]
+            time.sleep(1.2)
+            pairs = [("they wait", [it.poll() for it in waiting], [None] * 4),
+                     ("they are told", (link.ask(say.items(say.E1)), link.ask(say.items(say.mark(1, 1, 5)))), (("done", 2), ("done", 3)))]
+            pairs += [("they end", [(*it.communicate(timeout=LIMIT), it.returncode) for it in waiting], [("9 41\n", "", 0)] * 3 + [('{"row":{"tag":9,"body":"41"}}\n', "", 0)])]
+            late = begun("ask", "--port", node.port, "--reply-seconds", 1, "--wait", "count", 1, "--at", 9)
+            time.sleep(1.2)
+            pairs += [("one by several requests", late.poll(), None), ("it is told", link.ask(say.items(say.mark(1, 1, 9))), ("done", 4)), ("it ends", (*late.communicate(timeout=LIMIT), late.returncode), ("count 1\n", "", 0)),
+                      ("it can be read already", run("ask", "--port", node.port, *query, "--at", 1, "--wait"), (b"9 41\n", 0, ""))]
+        out, status, told = run("ask", "--port", plain.port, *query, "--at", 5, "--wait")
+        pairs += [("version 1 alone", (out, status, "--wait needs version 2" in told), (b"refused 3\n", 1, True))]
+    alone = ["--log", "7", "--streams", "1", "1"]
+    for words, part in (([*query, "--wait"], "--wait is for a time"), (["--wait", *query], "--wait is for a time"), ([*alone, *query, "--wait"], "--wait is for a node"), ([*alone, "--wait", *query], "--wait is for a node"),
+                        ([*query, "--at", 1, "--wait=5"], "--wait"), ([*query, "--at", 1, "--wait", "--wait"], "--wait")):
+        out, status, told = run("ask", *words)
+        pairs.append((" ".join(map(str, words)), (out, status, part in told), (b"", 2, True)))
+    report("answers that are waited for", differ(pairs))
+
+
 def main():
     if not is_built(PROGRAM):
         return ended()
     start = time.monotonic()
     for check in (there_and_back, bad_lines, json_answers, over_a_link, shell, shown_bodies, one_grammar, connected_later, silent_nodes, told_apart, addressed, named_around,
-                  no_nodes, other_logs, misplaced, terminals, words_that_mislead, how_many_were_new, waited_fronts):
+                  no_nodes, other_logs, misplaced, terminals, words_that_mislead, how_many_were_new, waited_fronts, waited_answers):
         if not sys.argv[1:] or check.__name__ in sys.argv[1:]:
             guarded(check)
     print(f"asked: {time.monotonic() - start:.1f} s")

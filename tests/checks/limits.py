@@ -1,5 +1,5 @@
 #!/usr/bin/env python3
-"""Checks of what a long-running `bin/hkrep` allows its links: how long they may be silent, inside a frame or unread, how many bytes and pinned times all of
+"""Checks of what a long-running `bin/hkrep` allows its links: how long they may be silent, inside a frame or unread, how slowly a frame may come, how many bytes and pinned times all of
 them make it keep, how many files it may open; that a long answer holds up nobody else; and its Unix domain sockets and ports that the system chooses.
 
 Prints a line for each check and ends with 'N passed, M failed'. Standard library only."""
@@ -12,13 +12,14 @@ import stat
 import subprocess
 import sys
 import tempfile
+import threading
 import time
 
 sys.path.append(str(pathlib.Path(__file__).resolve().parents[1] / "lib"))
 import messages as say
 from checks import differ, ended, free_port, guarded, is_built, report
 from messages import E1
-from staying import LIMIT, PROGRAM, OwnNode, Running, Staying
+from staying import LIMIT, PROGRAM, OwnNode, Running, Staying, is_silent
 
 LATER = ("--messages", "2")
 PUSHED = say.items(E1, say.mark(1, 1, 1))
@@ -104,6 +105,35 @@ def silent_links():
     report("links that are silent", differ(pairs))
 
 
+def sent_on(links):
+    """Sends each of these links what it has next, if it is open."""
+    for link, data in links:
+        with contextlib.suppress(OSError):
+            link.send(data)
+
+
+def slow_frames():
+    """With a rate a link ends half a minute after a frame began of which a byte comes now and then, though it is never silent for long; not one that is quicker, or
+    that waited meanwhile, and none where there is no rate."""
+    begun = say.u32(8_000_000) + b"\1\x10" + bytes(100)
+    with Staying(3, *LATER, "--read-seconds", "20", "--read-rate", "1024") as node, Staying(1, "--read-seconds", "20") as other:
+        with node.link() as slow, node.link() as quick, node.link() as waiting, other.link() as free:
+            start = time.monotonic()
+            waiting.send(say.wait(9, 32_000) + say.front()[:5])
+            sent_on([(link, begun) for link in (slow, quick, free)])
+            while node.lines.empty() and time.monotonic() - start < 120:
+                sent_on([(slow, b"\0"), (free, b"\0"), (quick, bytes(20_000))])
+                time.sleep(0.5)
+            pairs = [("not sooner", time.monotonic() - start > 29, True), ("a frame that trickles", node.line(), "ended 91")]
+            while not select.select([waiting], [], [], 0.5)[0] and time.monotonic() - start < 120:
+                sent_on([(free, b"\0"), (quick, bytes(20_000))])
+            pairs.append(("a wait", waiting.reply(), ("ready", 0, 0)))
+            waiting.send(say.front()[5:])
+            pairs += [("the frame behind it", waiting.reply(), ("front", 0, 0)), ("a quicker one", is_silent(quick), True), ("one without a rate", is_silent(free), True),
+                      ("and nobody else ended", (node.lines.empty(), other.lines.empty()), (True, True)), ("it is told", any("ended 91: " in it for it in words_once(node, "ended 91")), True)]
+    report("links whose frames trickle", differ(pairs))
+
+
 def kept_bytes():
     """What all links make a node keep has one limit, by each name of it: a frame or a reply beyond that ends its link with 90, and no other."""
     pairs = []
@@ -124,6 +154,23 @@ def kept_bytes():
                 pairs += [("for a frame", again.reply()[0], "refused")]
             pairs += [("its end", node.line(), "ended 0"), ("it is told", any("ended 90: " in it for it in words_once(node, "ended 90")), True)]
     report("what all links make a node keep", differ(pairs))
+
+
+def halves():
+    """Where readers have a port or a socket, one half of what all links make a node keep is for them, and the other for all others: who uses up one takes nothing
+    of the other. Without one all is for all."""
+    words, whole, told = [*LATER, "--link-bytes", "6000000"], say.whole(0, 1_000), ("refused", 46)
+    with tempfile.TemporaryDirectory() as folder, Staying(6, *words, reading=3) as node, OwnNode(*words[2:], "--read-socket", f"{folder}/read") as own, Staying(3, *words) as shared:
+        for name, its, reader in (("a port", node, lambda: node.link(node.read_port)), ("a socket", own, lambda: At(f"{folder}/read"))):
+            with its.link() as link, its.link() as other, reader() as first, reader() as second, reader() as third:
+                pairs = [("items", link.ask(LARGE), ("done", 2)), ("a reader's snapshot", first.ask(whole)[0], "part"), ("one more", second.ask(whole)[:2], told), ("a feeder's frame", link.ask(LARGE), ("done", 3))]
+                third.send(UNREAD)
+                pairs += [("a reader's unread replies", any("ended 90: " in it for it in words_once(its, "ended 90")), True), ("a feeder's frame then", link.ask(LARGE), ("done", 4)), ("the snapshot goes on", first.ask(say.more())[0], "part"),
+                          ("another's snapshot", link.ask(whole)[0], "part"), ("one more of others", other.ask(whole)[:2], told), ("a reader's next one", first.ask(whole)[0], "part")]
+            report(f"halves of what links make a node keep, with {name} for readers", differ(pairs))
+        with shared.link() as link, shared.link() as second, shared.link() as third:
+            pairs = [("items", link.ask(LARGE), ("done", 2)), *((f"snapshot {count}", it.ask(whole)[:len(wanted)], wanted) for count, (it, wanted) in enumerate(((link, ("part",)), (second, ("part",)), (third, told)), 1))]
+        report("all of it without readers' ports", differ(pairs))
 
 
 def unread_bytes():
@@ -220,7 +267,7 @@ def ran(*words):
 
 
 def paths():
-    """Unix domain sockets beside the ports: one takes everything, the other changes nothing; both are their owner's alone. A socket that nobody listens on is
+    """Unix domain sockets beside the ports of `node` and `serve --stay`: one takes everything, the other changes nothing; both are their owner's alone. A socket that nobody listens on is
     replaced; one that somebody listens on isn't, nor is a file that is no socket."""
     with tempfile.TemporaryDirectory() as folder:
         notes = pathlib.Path(folder) / "notes"
@@ -238,6 +285,9 @@ def paths():
                 pairs += [("a path in use", (taken.returncode, f"refused 93: can't listen at {path}: " in taken.stderr), (1, True)), ("and it goes on", link.ask(GET), ROW)]
             if turn == 0 and differ(pairs):
                 break
+        with Staying(2, "--socket", path, "--read-socket", read_path), At(path) as link, At(read_path) as reading:
+            pairs += [("serve's modes", [stat.S_IMODE(pathlib.Path(it).stat().st_mode) for it in (path, read_path)], [0o600] * 2), ("a push to serve", link.ask(PUSHED), ("done", 2)),
+                      ("its reader", reading.ask(GET), ROW), ("its reader's push", reading.ask(PUSHED)[:2], ("refused", 2))]
         pairs += [*kept, ("the file stays at the end", pathlib.Path(path).is_socket(), True)]
     report("Unix domain sockets", differ(pairs))
 
@@ -293,9 +343,15 @@ def few_files():
 def main():
     start = time.monotonic()
     if is_built(PROGRAM):
-        for check in (unread_replies, silent_links, kept_bytes, unread_bytes, before_a_wait, pinned_times, long_answers, paths, chosen_ports, few_files):
+        # it lasts longer than all others, so they are made meanwhile
+        slow = threading.Thread(target=guarded, args=(slow_frames,))
+        if not sys.argv[1:] or slow_frames.__name__ in sys.argv[1:]:
+            slow.start()
+        for check in (unread_replies, silent_links, kept_bytes, halves, unread_bytes, before_a_wait, pinned_times, long_answers, paths, chosen_ports, few_files):
             if not sys.argv[1:] or check.__name__ in sys.argv[1:]:
                 guarded(check)
+        if slow.ident:
+            slow.join()
     print(f"what links are allowed: {time.monotonic() - start:.1f} s")
     return ended()
 

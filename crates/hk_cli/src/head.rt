@@ -30,18 +30,27 @@ impl Grade {
 #[derive(Drop)]
 pub(crate) struct Heads<'c, C: Clock> {
     alloc: Global,
-    /// The clock of lines that have the time.
-    clock: Option<&'c C>,
+    clock: &'c C,
+    is_dated: bool,
 }
 
 impl<'c, C: Clock> Heads<'c, C> {
-    pub(crate) fn new(alloc: Global, clock: Option<&'c C>) -> Heads<'c, C> {
-        Heads { alloc, clock }
+    pub(crate) fn new(alloc: Global, clock: &'c C, is_dated: bool) -> Heads<'c, C> {
+        Heads {
+            alloc,
+            clock,
+            is_dated,
+        }
+    }
+
+    /// The clock.
+    pub(crate) fn clock(&self) -> &'c C {
+        self.clock
     }
 
     /// Whether lines have the time.
     pub(crate) fn are_dated(&self) -> bool {
-        self.clock.is_some()
+        self.is_dated
     }
 
     /// The head of a line, with a space behind it where it isn't empty.
@@ -51,8 +60,8 @@ impl<'c, C: Clock> Heads<'c, C> {
         peer: Option<SocketAddr>,
     ) -> Result<String, AllocError> {
         let mut head = String::new(self.alloc);
-        if let Some(clock) = self.clock {
-            put_moment(millis_now(clock), &mut head)?;
+        if self.is_dated {
+            put_moment(millis_now(self.clock), &mut head)?;
             put_origin(grade.word(), peer, &mut head)?;
         }
         Ok(head)

@@ -14,6 +14,7 @@ use std::collections::HashMap;
 use std::io::Write;
 use std::net::SocketAddr;
 use std::rt::Clock;
+use std::time::Instant;
 
 /// A seat that reads the node's front, and after how many changes it does.
 #[derive(Drop)]
@@ -55,6 +56,28 @@ struct Peer {
     address: Option<SocketAddr>,
 }
 
+/// Accepts that fail one after the other: the first is printed as it comes, further ones are counted.
+#[derive(Clone, Copy)]
+struct Failures {
+    /// When one came last.
+    last: Option<Instant>,
+    /// When one or a number of them was printed last.
+    told: Option<Instant>,
+    /// How many came since.
+    untold: u64,
+}
+
+/// Whether that was a second ago, or never.
+fn is_over<C: Clock>(clock: &C, since: Option<Instant>) -> bool {
+    match since {
+        Some(since) => match since.elapsed(clock) {
+            Ok(gone) => gone.as_secs() > 0,
+            Err(_unknown) => true,
+        },
+        None => true,
+    }
+}
+
 /// Prints what happens to the connections of a node. They are counted from 1 as they open.
 #[derive(Drop)]
 pub(crate) struct LinkReporter<'o, 'a, W: Write, E: Write, J: NodeName, C: Clock> {
@@ -63,6 +86,7 @@ pub(crate) struct LinkReporter<'o, 'a, W: Write, E: Write, J: NodeName, C: Clock
     heads: &'o Heads<'o, C>,
     level: Level,
     reports: Option<Reports<J>>,
+    failures: Failures,
     /// How many connections opened.
     count: u64,
     /// The number of the connection at each place, and the address of its peer, where it has one.
@@ -83,6 +107,11 @@ impl<'o, 'a, W: Write, E: Write, J: NodeName, C: Clock> LinkReporter<'o, 'a, W, 
             heads,
             level,
             reports,
+            failures: Failures {
+                last: None,
+                told: None,
+                untold: 0,
+            },
             count: 0,
             links: HashMap::new(alloc),
         }
@@ -175,6 +204,33 @@ impl<'o, 'a, W: Write, E: Write, J: NodeName, C: Clock> LinkReporter<'o, 'a, W, 
         self.output.tell_known(Place::Whole, what, number);
     }
 
+    /// Prints that an accept failed, or counts it where one failed less than a second before.
+    fn not_accepted(&mut self) {
+        let clock = self.heads.clock();
+        let is_first = is_over(clock, self.failures.last);
+        self.failures.last = Instant::now(clock).ok();
+        if is_first {
+            self.failures.told = Instant::now(clock).ok();
+            self.tell_node("not accepted", 93);
+        } else {
+            self.failures.untold = self.failures.untold.saturating_add(1);
+        }
+    }
+
+    /// Prints how many more accepts failed, where that is due.
+    fn tell_failures(&mut self) {
+        let clock = self.heads.clock();
+        let more = self.failures.untold;
+        if more == 0 || !is_over(clock, self.failures.told) {
+            return;
+        }
+        self.failures.told = Instant::now(clock).ok();
+        self.failures.untold = 0;
+        self.begin(Grade::Error, None);
+        let line = format!(in self.alloc; "not accepted 93 ({more} more)\n");
+        self.say(line);
+    }
+
     /// Prints what failed of the connection at a place, in words.
     fn tell_link(&mut self, place: usize, what: &str, number: u8) {
         let link = self.link(place);
@@ -200,6 +256,7 @@ impl<'o, 'a, W: Write, E: Write, J: NodeName, C: Clock> LinkReporter<'o, 'a, W, 
 
 impl<W: Write, E: Write, J: NodeName, C: Clock> Watch for LinkReporter<'_, '_, W, E, J, C> {
     fn told(&mut self, place: usize, event: LinkEvent) {
+        self.tell_failures();
         match event {
             LinkEvent::Opened(address) => {
                 self.count(place, address);
@@ -211,7 +268,7 @@ impl<W: Write, E: Write, J: NodeName, C: Clock> Watch for LinkReporter<'_, '_, W
                 self.report_change();
             }
             LinkEvent::Ended(ended) => self.ended(place, ended),
-            LinkEvent::NotAccepted => self.tell_node("not accepted", 93),
+            LinkEvent::NotAccepted => self.not_accepted(),
             LinkEvent::NotStarted => self.tell_node("not started", 90),
         }
         let _written = self.output.flush();

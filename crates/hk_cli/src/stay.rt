@@ -8,7 +8,7 @@ use crate::link_reporter::{LinkReporter, Reports};
 use crate::listening::{many_listener_of, most_files, port_of, socket_listener};
 use crate::memory::share_of_memory;
 use crate::notice::Notice;
-use crate::serve::{new_list, stop_of, tell_unproved};
+use crate::serve::{budget_of, new_list, stop_of, tell_unproved};
 use crate::starting::begin;
 use crate::texts::{Backlog, MOST_WAITING, Target, Text, TextWriter, write_texts};
 use crossbeam_channel::{Sender, bounded};
@@ -103,27 +103,61 @@ fn links_of(other: Option<OtherPort>) -> usize
     }
 }
 
+/// What connections may make a node keep.
+#[derive(Drop)]
+struct Budgets {
+    /// Those of the port and the socket for read-only connections, where there is one.
+    reading: Option<PartsBudget>,
+    /// All others.
+    others: PartsBudget,
+}
+
+impl Budgets {
+    /// So many bytes: half of them for read-only connections where these have a port or a socket, so that they take nothing of what
+    /// feeders need.
+    fn new(alloc: Global, bytes: u64, stay: &Stay<'_>) -> Result<Budgets, AllocError> {
+        let half = if stay.reading.is_some() || stay.read_socket.is_some() {
+            Some(bytes / 2)
+        } else {
+            None
+        };
+        let rest = bytes.saturating_sub(half.unwrap_or(0));
+        Ok(Budgets {
+            reading: budget_of(alloc, half)?,
+            others: PartsBudget::new(alloc, rest)?,
+        })
+    }
+
+    /// That of read-only connections.
+    fn of_readers(&self) -> &PartsBudget {
+        self.reading.as_ref().unwrap_or(&self.others)
+    }
+}
+
 /// The doors of a node: that of its port, and those of the further ports and sockets that there are.
 fn doors_of<'d, J: NodeName, N: Wait + Drop>(
     alloc: Global,
     node: &'d Node<J, N>,
     stay: &Stay<'_>,
     listeners: &'d Listeners,
+    budgets: &'d Budgets,
 ) -> Result<Vec<Door<'d, J, N>>, AllocError> {
     let links = usize::from(stay.links);
+    let (others, readers) = (&budgets.others, budgets.of_readers());
     let mut doors = Vec::new(alloc);
-    doors.push(Door::open(&listeners.open, node, links))?;
+    doors.push(Door::open(&listeners.open, node, links, others))?;
     if let Some(listener) = &listeners.feeding {
-        doors.push(Door::feeding(listener, node, links_of(stay.feeding)))?;
+        let links = links_of(stay.feeding);
+        doors.push(Door::feeding(listener, node, links, others))?;
     }
     if let Some(listener) = &listeners.reading {
-        doors.push(Door::reading(listener, links_of(stay.reading)))?;
+        doors.push(Door::reading(listener, links_of(stay.reading), readers))?;
     }
     if let Some(listener) = &listeners.socket {
-        doors.push(Door::open_unix(listener, node, links))?;
+        doors.push(Door::open_unix(listener, node, links, others))?;
     }
     if let Some(listener) = &listeners.read_socket {
-        doors.push(Door::reading_unix(listener, links))?;
+        doors.push(Door::reading_unix(listener, links, readers))?;
     }
     Ok(doors)
 }
@@ -263,10 +297,7 @@ raise that by 'ulimit -n', or by LimitNOFILE= of its unit\n"
 
 /// What stands before a node's lines: nothing, or as `node` the time and more.
 fn heads_of<'c, R: Clock>(rt: &'c R, alloc: Global, stay: &Stay<'_>) -> Heads<'c, R> {
-    match stay.start {
-        Some(_) => Heads::new(alloc, Some(rt)),
-        None => Heads::new(alloc, None),
-    }
+    Heads::new(alloc, rt, stay.start.is_some())
 }
 
 /// How many bytes all connections keep at most for messages of version 2, where these are answered.
@@ -277,10 +308,11 @@ fn parts_bytes_of<R: Files + Alloc<A = Global>>(rt: &R, stay: &Stay<'_>) -> Opti
     }
 }
 
-/// For how long connections may do nothing.
+/// For how long connections may do nothing, and how slowly frames may come.
 fn limits_of(stay: &Stay<'_>) -> Limits {
     Limits {
         read_seconds: stay.read_seconds,
+        read_rate: stay.read_rate,
         write_seconds: stay.write_seconds,
         idle_seconds: stay.idle_seconds,
     }
@@ -299,7 +331,6 @@ fn serve_doors<
     level: Level,
     doors: Vec<Door<'d, J, N>>,
     seats: Vec<ReaderSeat<J>>,
-    budget: &'d PartsBudget,
     in_both: bool,
     limits: Limits,
     reports: Option<Reports<J>>,
@@ -310,16 +341,7 @@ fn serve_doors<
     let mut words = TextWriter::new(rt, alloc, Target::Words, &texts, backlog);
     let mut output = Output::new(alloc, &mut lines, &mut words);
     let mut reporter = LinkReporter::new(alloc, &mut output, &heads, level, reports);
-    serve_forever(
-        rt,
-        alloc,
-        doors,
-        seats,
-        budget,
-        in_both,
-        limits,
-        &mut reporter,
-    )
+    serve_forever(rt, alloc, doors, seats, in_both, limits, &mut reporter)
 }
 
 /// The same, and writes what is printed: this thread alone waits where nobody reads it.
@@ -336,7 +358,6 @@ fn serve_writing<
     stay: &Stay<'_>,
     doors: Vec<Door<'d, J, N>>,
     seats: Vec<ReaderSeat<J>>,
-    budget: &'d PartsBudget,
     reports: Option<Reports<J>>,
     output: &mut Output<'_, W, E>,
 ) -> Result<(), NetFault> {
@@ -355,8 +376,8 @@ fn serve_writing<
             let serving = scope
                 .spawn(move || {
                     serve_doors(
-                        rt, alloc, heads, level, doors, seats, budget, in_both, limits, reports,
-                        texts, backlog,
+                        rt, alloc, heads, level, doors, seats, in_both, limits, reports, texts,
+                        backlog,
                     )
                 })
                 .ok();
@@ -445,10 +466,11 @@ where
         every => seats.pop().map(|seat| Reports::new(seat, every)),
     };
     let parts_bytes = parts_bytes_of(rt, stay);
-    let budget = PartsBudget::new(alloc, parts_bytes.unwrap_or(PLAIN_BYTES))?;
-    let doors = furnished(alloc, doors_of(alloc, &node, stay, &listeners)?, stay)?;
+    let budgets = Budgets::new(alloc, parts_bytes.unwrap_or(PLAIN_BYTES), stay)?;
+    let doors = doors_of(alloc, &node, stay, &listeners, &budgets)?;
+    let doors = furnished(alloc, doors, stay)?;
     tell_start(alloc, config, stay, parts_bytes, output)?;
-    serve_writing(rt, alloc, stay, doors, seats, &budget, reports, output).map_err(stop_of)
+    serve_writing(rt, alloc, stay, doors, seats, reports, output).map_err(stop_of)
 }
 
 /// Starts a node of a log, and serves connections to it without an end: a place is free again when its connection ends. As `node` it

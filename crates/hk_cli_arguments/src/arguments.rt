@@ -1,6 +1,6 @@
 //! The command line.
 
-use crate::calls::{call_of, refusal_named, u64_of};
+use crate::calls::{asked_time, call_of, refusal_named, u64_of, waits};
 use crate::command::program;
 use crate::flaw::{Flaw, WordFlaw, text_of};
 use crate::forms::{CommandForm, all_numbers_of, command_named, numbers_of_query, query_named};
@@ -43,6 +43,20 @@ fn time_checked<'a>(matches: &ArgMatches<'_>, words: &ArgMatches<'_>) -> Result<
     }
 }
 
+/// Whether a question that waits is for a node, and has a time.
+fn wait_checked<'a>(matches: &ArgMatches<'_>, words: &ArgMatches<'_>) -> Result<(), Flaw<'a>> {
+    if !waits(matches, words) {
+        return Ok(());
+    }
+    if is_alone(matches) {
+        return Err(Flaw::NoNodeToWait);
+    }
+    match asked_time(matches, words) {
+        Some(_time) => Ok(()),
+        None => Err(Flaw::NoTimeToWait),
+    }
+}
+
 /// Whether the keys of a range go from the least to the greatest.
 fn range_checked<'a>(words: &ArgMatches<'_>) -> Result<(), Flaw<'a>> {
     match (u64_of(words, "low"), u64_of(words, "high")) {
@@ -61,7 +75,8 @@ fn query_checked<'a>(
         numbers_checked(words, numbers_of_query(query))?;
     }
     range_checked(words)?;
-    time_checked(matches, words)
+    time_checked(matches, words)?;
+    wait_checked(matches, words)
 }
 
 /// Whether a refusal has the number or name that `explain` is given.

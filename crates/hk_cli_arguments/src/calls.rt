@@ -145,9 +145,14 @@ fn at_call<'a>(matches: &ArgMatches<'a>) -> Option<Call<'a>> {
 }
 
 /// The time that a query is asked at, where one is given: before the query, or behind it.
-fn asked_time(matches: &ArgMatches<'_>, words: &ArgMatches<'_>) -> Option<Time> {
+pub(crate) fn asked_time(matches: &ArgMatches<'_>, words: &ArgMatches<'_>) -> Option<Time> {
     let first = u64_of(matches, "time").or(u64_of(matches, "at"));
     Time::new(first.or(u64_of(words, "at"))?).ok()
+}
+
+/// Whether a question waits until its time can be read: the flag stands before the query, or behind it.
+pub(crate) fn waits(matches: &ArgMatches<'_>, words: &ArgMatches<'_>) -> bool {
+    has_flag(matches, "wait") || has_flag(words, "wait")
 }
 
 /// The call of an order that only asks, of what is done alone where a log is named, else to a node.
@@ -184,7 +189,12 @@ fn ask_call<'a>(matches: &ArgMatches<'a>, named: Option<&'a str>) -> Option<Call
     }
     let form = form_of(matches);
     let place = place_of(matches, named)?;
-    let order = Order::Ask { time, query, form };
+    let order = Order::Ask {
+        time,
+        waits: waits(matches, words),
+        query,
+        form,
+    };
     Some(node_of(matches, place, REPLY_SECONDS, order))
 }
 

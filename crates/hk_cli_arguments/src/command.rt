@@ -3,7 +3,8 @@
 use crate::argument::argument;
 use crate::forms::{
     CommandForm, QueryForm, about_of, all_forms, example_of, last_numbers_of, long_about_of,
-    name_of, numbers_of, numbers_of_query, queries_of, query_about, query_name, words_of,
+    name_of, numbers_of, numbers_of_query, queries_of, query_about, query_name, query_words,
+    words_of,
 };
 use crate::numbers::Number;
 use crate::texts;
@@ -55,7 +56,8 @@ fn titled<'a>(alloc: Global, name: &'a str, about: &'a str) -> Command<'a> {
 
 impl<'a> Make<Command<'a>> for QueryForm {
     fn make(self, alloc: Global) -> Result<Command<'a>, AllocError> {
-        let args = all_of(alloc, numbers_of_query(self))?;
+        let mut args = all_of(alloc, numbers_of_query(self))?;
+        add_all(alloc, query_words(), &mut args)?;
         titled(alloc, query_name(self), query_about(self)).args(args)
     }
 }

@@ -39,6 +39,10 @@ pub(crate) enum Flaw<'a> {
     NoTime,
     /// The time is given before the query and behind it.
     TwoTimes,
+    /// A question is to wait, and has no time.
+    NoTimeToWait,
+    /// A question of item frames is to wait.
+    NoNodeToWait,
     /// The least key of a range is above the greatest.
     Backwards,
     /// No command has the first word's name.
@@ -86,6 +90,10 @@ fn words_of(flaw: Flaw<'_>) -> &'static str {
         Flaw::NoTime => {
             "the time is missing: give TIME before the query, or --at TIME behind it"
         }
+        Flaw::NoTimeToWait => {
+            "--wait is for a time: give TIME before the query, or --at TIME behind it"
+        }
+        Flaw::NoNodeToWait => "--wait is for a node that runs: it can't be given with --log",
         Flaw::TwoTimes => "the time is given twice: give TIME before the query, or --at TIME",
         Flaw::Backwards => "LOW is above HIGH: a range goes from its least key to its greatest",
         Flaw::NoSuchCommand => "no such command",

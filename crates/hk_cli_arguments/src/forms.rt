@@ -108,6 +108,11 @@ pub(crate) fn numbers_of_query(form: QueryForm) -> &'static [Number] {
     }
 }
 
+/// What each query accepts beside numbers.
+pub(crate) fn query_words() -> &'static [Word] {
+    &[Word::Wait]
+}
+
 /// The name of a command that asks or starts a node.
 fn name_of_node<'a>(form: CommandForm) -> &'a str {
     match form {
@@ -302,6 +307,8 @@ fn words_of_serving(form: CommandForm) -> &'static [Word] {
             Word::StayQuiet,
             Word::StayVerbose,
             Word::StayListening,
+            Word::StaySocket,
+            Word::StayReadSocket,
         ],
         CommandForm::Node => &[
             Word::Sources,
@@ -323,7 +330,8 @@ fn words_of_serving(form: CommandForm) -> &'static [Word] {
 pub(crate) fn words_of(form: CommandForm) -> &'static [Word] {
     match form {
         CommandForm::At | CommandForm::Items => &[Word::Json],
-        CommandForm::Ask | CommandForm::Front | CommandForm::Status => &[Word::Address, Word::Json],
+        CommandForm::Ask => &[Word::Address, Word::Json, Word::Wait],
+        CommandForm::Front | CommandForm::Status => &[Word::Address, Word::Json],
         CommandForm::Save => &[Word::Address, Word::Json, Word::Out],
         CommandForm::Pull => &[Word::Address, Word::From],
         CommandForm::Shell => &[Word::Address, Word::Text, Word::Hex],

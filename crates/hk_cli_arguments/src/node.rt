@@ -4,7 +4,8 @@ use crate::calls::{config_of, has_flag, port_of, u16_of};
 use crate::flaw::{Flaw, WordFlaw};
 use crate::places::port_or_place;
 use crate::stay::{
-    address_of, count_of, level_of, other_port, report_changes_of, seconds_of, stay_checked,
+    address_of, count_of, level_of, other_port, read_rate_of, report_changes_of, seconds_of,
+    stay_checked,
 };
 use clap::ArgMatches;
 use hk_cli_calls::{Call, MOST_SOURCES, NodePlace, PartsLimit, Start, Stay};
@@ -14,6 +15,9 @@ const PORT: u16 = 7_420;
 
 /// For how long a connection may stop inside a frame, or not take a reply, by default, in seconds.
 const SECONDS: u64 = 30;
+
+/// How many bytes a second of a frame that takes long have to come by default.
+const READ_RATE: u64 = 1_024;
 
 /// How many hundredths of the memory are kept for messages of version 2 by default.
 const PARTS_PERCENT: u64 = 25;
@@ -122,6 +126,7 @@ pub(crate) fn node_call<'a>(matches: &ArgMatches<'a>) -> Option<Call<'a>> {
         read_socket: matches.get_str("read-socket"),
         workers: count_of(matches, "workers"),
         read_seconds,
+        read_rate: read_rate_of(matches, READ_RATE),
         write_seconds,
         idle_seconds,
         is_guarded: !has_flag(matches, "no-guard"),

@@ -36,6 +36,8 @@ pub(crate) enum Number {
     PartsBytes,
     ReadSeconds,
     NodeReadSeconds,
+    ReadRate,
+    NodeReadRate,
     ReportChanges,
     NodeReportChanges,
     FeedPort,
@@ -62,6 +64,7 @@ fn name_of_node(number: Number) -> &'static str {
         Number::Messages | Number::SentMessages => "messages",
         Number::PartsBytes => "link-bytes",
         Number::ReadSeconds | Number::NodeReadSeconds => "read-seconds",
+        Number::ReadRate | Number::NodeReadRate => "read-rate",
         Number::ReportChanges | Number::NodeReportChanges => "report-changes",
         Number::FeedPort | Number::NodeFeedPort => "feed-port",
         Number::FeedLinks | Number::NodeFeedLinks => "feed-links",
@@ -101,6 +104,7 @@ fn value_of_node(number: Number) -> &'static str {
         Number::FeedLinks | Number::NodeFeedLinks => "M3",
         Number::ReadPort | Number::NodeReadPort => "P2",
         Number::ReadLinks | Number::NodeReadLinks => "M",
+        Number::ReadRate | Number::NodeReadRate => "BYTES",
         Number::Port | Number::ServePort | Number::NodePort => "P",
         _other => "N",
     }
@@ -152,9 +156,17 @@ fn help_of_links(number: Number) -> &'static str {
     }
 }
 
-/// The help of a number of workers, of limits of time, or of changes.
+/// The help of a number of workers, of limits of time or of a rate, or of changes.
 fn help_of_workers(number: Number) -> &'static str {
     match number {
+        Number::ReadRate => {
+            "End a connection of whose frame after 30 seconds fewer bytes a second have come than this: 0 (never) to 1048576; 0 where it \
+isn't given"
+        }
+        Number::NodeReadRate => {
+            "End a connection of whose frame after 30 seconds fewer bytes a second have come than this: 0 (never) to 1048576; 1024 where it \
+isn't given"
+        }
         Number::Workers | Number::NodeWorkers => {
             "How many threads give short answers, and as many long ones: 1 to 31; as many as processors where it isn't given"
         }
@@ -190,7 +202,8 @@ fn help_of_messages(number: Number) -> &'static str {
             "The latest version of requests that is sent: 1 or 2; 1 where it isn't given"
         }
         Number::PartsBytes => {
-            "How many bytes all connections keep at most, with --messages 2; 1073741824 where it isn't given"
+            "How many bytes all connections keep at most, with --messages 2; 1073741824 where it isn't given. With --read-port or --read-socket half is for \
+their connections"
         }
         other => help_of_links(other),
     }
@@ -242,6 +255,7 @@ fn range_of(number: Number) -> Range {
         Number::Workers | Number::NodeWorkers => Range::Within(1, 31),
         Number::WriteSeconds | Number::NodeWriteSeconds => Range::Within(0, 86_400),
         Number::IdleSeconds | Number::NodeIdleSeconds => Range::Within(0, 86_400),
+        Number::ReadRate | Number::NodeReadRate => Range::Within(0, 1_048_576),
         Number::Batch => Range::Within(1, 65_536),
         Number::Time | Number::OrTime | Number::At | Number::Horizon => {
             Range::Within(0, 4_611_686_018_427_387_904)
@@ -269,7 +283,7 @@ fn need_of(number: Number) -> Need {
         Number::PartsBytes => Need::with(&["messages"]),
         Number::Wait => Need::without(&["log"]),
         Number::ReadSeconds | Number::ReportChanges | Number::Workers => Need::with(&["stay"]),
-        Number::WriteSeconds | Number::IdleSeconds => Need::with(&["stay"]),
+        Number::WriteSeconds | Number::IdleSeconds | Number::ReadRate => Need::with(&["stay"]),
         Number::FeedPort => Need::with(&["stay", "feed-links"]),
         Number::FeedLinks => Need::with(&["stay", "feed-port"]),
         Number::ReadPort => Need::with(&["stay", "read-links"]),
@@ -283,6 +297,7 @@ fn need_of(number: Number) -> Need {
         Number::Messages | Number::SentMessages | Number::NodePort => Need::never(),
         Number::NodeLinks | Number::NodeReadSeconds | Number::NodeReportChanges => Need::never(),
         Number::NodeWorkers | Number::NodeWriteSeconds | Number::NodeIdleSeconds => Need::never(),
+        Number::NodeReadRate => Need::never(),
         _always => Need::always(),
     }
 }
@@ -320,6 +335,7 @@ pub(crate) fn node_numbers() -> &'static [Number] {
         Number::NodeReadPort,
         Number::NodeReadLinks,
         Number::NodeReadSeconds,
+        Number::NodeReadRate,
         Number::NodeWriteSeconds,
         Number::NodeIdleSeconds,
         Number::NodeWorkers,
@@ -343,6 +359,7 @@ pub(crate) fn serve_numbers() -> &'static [Number] {
 pub(crate) fn stay_numbers() -> &'static [Number] {
     &[
         Number::ReadSeconds,
+        Number::ReadRate,
         Number::WriteSeconds,
         Number::IdleSeconds,
         Number::FeedPort,
@@ -368,6 +385,7 @@ pub(crate) fn serve_words() -> &'static [Number] {
         Number::ReadPort,
         Number::ReadLinks,
         Number::ReadSeconds,
+        Number::ReadRate,
         Number::WriteSeconds,
         Number::IdleSeconds,
         Number::Workers,

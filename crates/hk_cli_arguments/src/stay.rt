@@ -45,6 +45,11 @@ pub(crate) fn seconds_of(matches: &ArgMatches<'_>, default: u64) -> (u64, u64, u
     )
 }
 
+/// How many bytes a second of a frame have to come, where it takes long.
+pub(crate) fn read_rate_of(matches: &ArgMatches<'_>, default: u64) -> u64 {
+    u64_of(matches, "read-rate").unwrap_or(default)
+}
+
 fn address_named(word: &str) -> Option<IpAddr> {
     word.parse::<IpAddr>().ok()
 }
@@ -101,10 +106,11 @@ fn stay_call<'a>(matches: &ArgMatches<'a>) -> Option<Call<'a>> {
         links: u16_of(matches, "links")?,
         feeding: other_port(matches, "feed-port", "feed-links"),
         reading: other_port(matches, "read-port", "read-links"),
-        socket: None,
-        read_socket: None,
+        socket: matches.get_str("socket"),
+        read_socket: matches.get_str("read-socket"),
         workers: count_of(matches, "workers"),
         read_seconds,
+        read_rate: read_rate_of(matches, 0),
         write_seconds,
         idle_seconds,
         is_guarded: has_flag(matches, "guard"),

@@ -18,7 +18,9 @@ pub(crate) const ASK_EXAMPLE: &str = "Example:
 prints '5 9 41', the key, tag and body of each row of table 1 with a key from 0 to 9 at time 1, and \
 then 'rows 1'. What is refused is printed as at 'hkrep at'. The time may stand behind the query, as \
 'get 1 5 --at 1'. Without --log it asks a node that runs, and reads at the resolved time where no time is given:
-  hkrep ask --port 7426 get 1 5";
+  hkrep ask --port 7426 get 1 5
+or at a time, once that can be read:
+  hkrep ask --port 7426 get 1 5 --at 1 --wait";
 
 pub(crate) const GET_ABOUT: &str = "The row at a key: prints 'TAG BODY' or 'none'";
 
@@ -220,7 +222,8 @@ all together; what would be more is refused 46.
 
 With --stay it serves connections without an end, --links of them at once: a further one waits until one ends. \
 It prints 'ended' and a number as each connection ends. --read-port opens a second port, whose connections \
-may ask and not change, --feed-port a further one, whose connections may send items and ask. \
+may ask and not change, --feed-port a further one, whose connections may send items and ask; --socket and --read-socket \
+open Unix domain sockets for its own user. \
 NOTHING IS ENCRYPTED OR AUTHENTICATED: whoever reaches the port may write. Give \
 --address only behind a proxy that does both (docs/OPERATING.md).";
 

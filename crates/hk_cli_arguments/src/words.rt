@@ -13,11 +13,14 @@ pub(crate) enum Word {
     Refusal,
     Text,
     Hex,
+    Wait,
     Stay,
     Guard,
     StayQuiet,
     StayVerbose,
     StayListening,
+    StaySocket,
+    StayReadSocket,
     Sources,
     Load,
     NeedData,
@@ -41,8 +44,8 @@ fn name_of_serving(word: Word) -> &'static str {
         Word::NeedData => "need-data",
         Word::NoGuard => "no-guard",
         Word::PartsBytes => "link-bytes",
-        Word::Socket => "socket",
-        Word::ReadSocket => "read-socket",
+        Word::Socket | Word::StaySocket => "socket",
+        Word::ReadSocket | Word::StayReadSocket => "read-socket",
         _listening => "address",
     }
 }
@@ -58,6 +61,7 @@ fn name_of(word: Word) -> &'static str {
         Word::Refusal => "refusal",
         Word::Text => "text",
         Word::Hex => "hex",
+        Word::Wait => "wait",
         other => name_of_serving(other),
     }
 }
@@ -71,13 +75,13 @@ fn value_of(word: Word) -> &'static str {
         Word::Refusal => "NUMBER",
         Word::Sources => "NODE",
         Word::PartsBytes => "BYTES",
-        Word::Socket | Word::ReadSocket => "PATH",
+        Word::Socket | Word::ReadSocket | Word::StaySocket | Word::StayReadSocket => "PATH",
         Word::Listening | Word::StayListening => "A",
         _flag => "",
     }
 }
 
-/// The help of an option of `node`.
+/// The help of an option of `node`, some of which `serve` has too.
 fn help_of_node(word: Word) -> &'static str {
     match word {
         Word::Sources => {
@@ -88,13 +92,13 @@ fn help_of_node(word: Word) -> &'static str {
         }
         Word::NeedData => "End with status 1 where there is neither a file nor another node",
         Word::NoGuard => "Don't test changes first: a conflict makes the node fail",
-        Word::Socket => {
+        Word::Socket | Word::StaySocket => {
             "Also serve as many connections over a Unix domain socket of this path; a file there that nobody listens on is replaced"
         }
-        Word::ReadSocket => "The same for connections that may only read",
+        Word::ReadSocket | Word::StayReadSocket => "The same for connections that may only read",
         _parts => {
             "How many bytes all connections keep at most, in snapshots in chunks and between socket and session: N, or P% of the \
-memory; 25% where it isn't given, and at least 268435456"
+memory; 25% where it isn't given, and at least 268435456. With --read-port or --read-socket half is for their connections"
         }
     }
 }
@@ -135,6 +139,9 @@ where neither is given HKREP_NODE of the environment, else 127.0.0.1:7420"
         Word::Refusal => "The number or the name of a refusal",
         Word::Text => "Print bodies as text, and escape what can't be shown",
         Word::Hex => "Print bodies in hexadecimal digits",
+        Word::Wait => {
+            "Wait until the time can be read that is given; the node has to answer messages of version 2"
+        }
         other => help_of_serving(other),
     }
 }
@@ -146,6 +153,7 @@ fn shape_of(word: Word) -> Shape {
         Word::Address | Word::Items | Word::Out | Word::From => Shape::Option,
         Word::Load | Word::PartsBytes | Word::Listening | Word::StayListening => Shape::Option,
         Word::Socket | Word::ReadSocket => Shape::Option,
+        Word::StaySocket | Word::StayReadSocket => Shape::Option,
         Word::Sources => Shape::Options,
         Word::Quiet | Word::StayQuiet => Shape::Letter('q'),
         Word::Verbose | Word::StayVerbose => Shape::Letter('v'),
@@ -170,6 +178,7 @@ fn need_of(word: Word) -> Need {
         Word::Verbose => Need::without(&["quiet"]),
         Word::StayVerbose => Need::with(&["stay"]).and_without(&["quiet"]),
         Word::StayQuiet | Word::StayListening => Need::with(&["stay"]),
+        Word::StaySocket | Word::StayReadSocket => Need::with(&["stay"]),
         _other => Need::never(),
     }
 }

@@ -37,9 +37,10 @@ pub enum Order {
     Shell {
         bodies: Bodies,
     },
-    /// To answer a query, at the resolved time where the caller names no time.
+    /// To answer a query, at the resolved time where the caller names no time; where the order waits, once its time can be read.
     Ask {
         time: Option<Time>,
+        waits: bool,
         query: Query,
         form: OutputForm,
     },

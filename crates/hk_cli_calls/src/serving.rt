@@ -67,6 +67,8 @@ pub struct Stay<'a> {
     pub workers: u16,
     /// For how many seconds inside a frame nothing may come; 0 is no limit.
     pub read_seconds: u64,
+    /// How many bytes a second have to have come of a frame that isn't complete 30 seconds after it began; 0 is no limit.
+    pub read_rate: u64,
     /// For how many seconds a reply may stand that isn't taken; 0 is no limit.
     pub write_seconds: u64,
     /// For how many seconds a connection may be silent between two frames; 0 is no limit.

@@ -6,7 +6,7 @@ use crate::change::{prune, pull};
 use crate::feed::feed;
 use crate::link::Link;
 use crate::push::{Accepted, push_all};
-use crate::read::{save, tell_answer, tell_front_from, tell_status};
+use crate::read::{save, tell_answer, tell_front, tell_status};
 use crate::shell::answer_lines;
 use crate::stream::opened;
 use hk_cli_calls::{NodeCall, Order};
@@ -48,8 +48,13 @@ where
         Order::Shell { bodies } => {
             return answer_lines(link, input, terminal.is_input, *bodies, output);
         }
-        Order::Ask { time, query, .. } => tell_answer(link, *time, *query, output),
-        Order::Front { wait, .. } => tell_front_from(link, *wait, output),
+        Order::Ask {
+            time,
+            waits,
+            query,
+            ..
+        } => tell_answer(link, *time, *waits, *query, output),
+        Order::Front { wait, .. } => tell_front(link, *wait, output),
         Order::Status { .. } => tell_status(link, output),
         Order::Save { form } => save(link, *form, output),
         Order::Pull => pull(rt, link, call, terminal, output),
@@ -99,7 +104,8 @@ fn written<W: Write, E: Write>(
 /// terminal is the input a banner, and a prompt before each line; a line of another form is reported on `errors`, a refusal is printed and
 /// explained, and the next line goes on. `Load` and `Feed` end with the status 1 where the input is empty. Where standard error is a
 /// terminal each megabyte of a reply is counted there, in a line that is overwritten.
-/// `Front` with a time waits until that can be read, by requests of version 2, each of which the node may let wait for up to ten seconds.
+/// `Front` with a time, and `Ask` where it waits, wait until that can be read, by requests of version 2, each of which the node may let wait
+/// for up to ten seconds.
 /// `Status` reads a delta since the resolved time, and is refused as too old where the node is pruned between. `Save` and `Pull` send
 /// chunks of up to 8,388,608 bytes, or of one fact, where a node refuses a single message as too long and both nodes read version 2; else
 /// they end with 2, as it was refused. Of what goes in chunks nothing is joined before all is there. `Pull`, `Prune` and `Feed` print

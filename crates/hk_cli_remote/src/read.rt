@@ -53,26 +53,6 @@ pub(crate) fn answer_at(
     }
 }
 
-/// Prints the node's answer to a query at a time, or at its resolved time.
-pub(crate) fn tell_answer<W: Write, E: Write>(
-    link: &mut Link<'_>,
-    time: Option<Time>,
-    query: Query,
-    output: &mut Output<'_, W, E>,
-) -> Result<(), Stop> {
-    let answer = answer_at(link, time, query)?;
-    output.show(&answer)
-}
-
-/// Prints the node's range of readable times.
-pub(crate) fn tell_front<W: Write, E: Write>(
-    link: &mut Link<'_>,
-    output: &mut Output<'_, W, E>,
-) -> Result<(), Stop> {
-    let front = front_at(link)?;
-    output.show_front(front)
-}
-
 /// The node's range of readable times, as it replies to a request that it lets wait until a time can be read.
 fn front_after(link: &mut Link<'_>, t: Time) -> Result<Front, Stop> {
     let milliseconds = link.most_wait();
@@ -82,16 +62,12 @@ fn front_after(link: &mut Link<'_>, t: Time) -> Result<Front, Stop> {
     }
 }
 
-/// Prints the node's range of readable times, once a time can be read.
-fn tell_front_at<W: Write, E: Write>(
-    link: &mut Link<'_>,
-    time: Time,
-    output: &mut Output<'_, W, E>,
-) -> Result<(), Stop> {
+/// The node's range of readable times, once a time can be read.
+fn front_once(link: &mut Link<'_>, time: Time) -> Result<Front, Stop> {
     for _ in 0..MOST_WAITS {
         let front = front_after(link, time)?;
         if front.readable >= time {
-            return output.show_front(front);
+            return Ok(front);
         }
     }
     Err(Stop::ReadFault)
@@ -108,21 +84,60 @@ fn tell_version<W: Write, E: Write>(stop: &Stop, output: &mut Output<'_, W, E>) 
 }
 
 /// The same, at once where no time is given. Where a node answers messages of version 1 alone a line of its own says that.
-pub(crate) fn tell_front_from<W: Write, E: Write>(
+fn front_from<W: Write, E: Write>(
     link: &mut Link<'_>,
     wait: Option<Time>,
     output: &mut Output<'_, W, E>,
-) -> Result<(), Stop> {
+) -> Result<Front, Stop> {
     let Some(time) = wait else {
-        return tell_front(link, output);
+        return front_at(link);
     };
-    match tell_front_at(link, time, output) {
-        Ok(()) => Ok(()),
+    match front_once(link, time) {
+        Ok(front) => Ok(front),
         Err(stop) => {
             tell_version(&stop, output);
             Err(stop)
         }
     }
+}
+
+/// Prints the node's range of readable times, once a time can be read where one is given.
+pub(crate) fn tell_front<W: Write, E: Write>(
+    link: &mut Link<'_>,
+    wait: Option<Time>,
+    output: &mut Output<'_, W, E>,
+) -> Result<(), Stop> {
+    let front = front_from(link, wait, output)?;
+    output.show_front(front)
+}
+
+/// Waits until a time can be read, where the order waits.
+fn await_time<W: Write, E: Write>(
+    link: &mut Link<'_>,
+    time: &Option<Time>,
+    waits: bool,
+    output: &mut Output<'_, W, E>,
+) -> Result<(), Stop> {
+    if !waits {
+        return Ok(());
+    }
+    match front_from(link, *time, output) {
+        Ok(_front) => Ok(()),
+        Err(stop) => Err(stop),
+    }
+}
+
+/// Prints the node's answer to a query at a time, once that can be read where the order waits, or at its resolved time.
+pub(crate) fn tell_answer<W: Write, E: Write>(
+    link: &mut Link<'_>,
+    time: Option<Time>,
+    waits: bool,
+    query: Query,
+    output: &mut Output<'_, W, E>,
+) -> Result<(), Stop> {
+    await_time(link, &time, waits, output)?;
+    let answer = answer_at(link, time, query)?;
+    output.show(&answer)
 }
 
 /// Prints how far each stream of the node is, by a delta since its resolved time.

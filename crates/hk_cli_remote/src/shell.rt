@@ -68,7 +68,7 @@ impl<'k, 'l, 'o, 'p, W: Write, E: Write> Shell<'k, 'l, 'o, 'p, W, E> {
     fn make(&mut self, asking: Asking) -> Result<(), Stop> {
         match asking {
             Asking::Query { time, query } => self.query(time, query),
-            Asking::Front => tell_front(self.link, self.output),
+            Asking::Front => tell_front(self.link, None, self.output),
             Asking::Status => tell_status(self.link, self.output),
             Asking::Help => self.output.send(Asking::HELP.as_bytes()),
             Asking::Quit => Err(Stop::Quit),
