@@ -11,9 +11,9 @@
    - not from a signal handler, nor in a forked child of a process with threads;
    - malloc, realloc and free are one allocator, whose blocks are aligned to 16.
 
-   Each function but hk_reply, hk_close and hk_words answers 0, or the number of a refusal, which hk_words puts in words:
-   255 at a closed handle, and then nothing happens; 90 where memory ran out. A refused call changes nothing in the
-   replica, where it does not say otherwise. A time is 0 to 2^62, else the number is 6. */
+   Each function but hk_reply, hk_close, hk_words and hk_version answers 0, or the number of a refusal, which hk_words
+   puts in words: 255 at a closed handle, and then nothing happens; 90 where memory ran out. A refused call changes
+   nothing in the replica, where it does not say otherwise. A time is 0 to 2^62, else the number is 6. */
 #ifndef HEKATON_H
 #define HEKATON_H
 
@@ -27,7 +27,7 @@
 extern "C" {
 #endif
 
-/* The version of all of Vadungsil. */
+/* The version of all of Vadungsil, which this header is of; hk_version tells that of the library. */
 #define HEKATON_VERSION "0.1.0"
 
 /* The numbers that functions and replies refuse with, by their names in docs/FORMATS.md; 0 is no refusal. The last is
@@ -140,6 +140,10 @@ uint8_t hk_merge(hk_handle *handle, hk_handle *peer);
 /* What a number means and what to do, in a line of ASCII; as many of its bytes as fit go to out, with no zero byte
    after. How many bytes the line has: 0 for a number that no refusal has. */
 size_t hk_words(uint8_t number, uint8_t *out, size_t out_len);
+
+/* The version of the library, as "0.1.0" with its zero byte; as many of these bytes as fit go to out. How many there
+   are, the zero byte too: so out has a string of C where that is at most out_len. */
+size_t hk_version(uint8_t *out, size_t out_len);
 
 #ifdef __cplusplus
 }

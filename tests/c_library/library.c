@@ -158,6 +158,14 @@ static void words(void) {
     want("words: none", hk_words(255, out, sizeof out) == 0 && hk_words(26, out, 0) == n);
 }
 
+static void version(void) {
+    char out[32], small[32]; size_t n = hk_version((uint8_t *)out, sizeof out);
+    want("version", n == sizeof HEKATON_VERSION && !strcmp(out, HEKATON_VERSION));
+    memset(small, 7, sizeof small);
+    want("version: too small by one", hk_version((uint8_t *)small, n - 1) == n && !memcmp(small, out, n - 1) && small[n - 1] == 7);
+    want("version: no room", hk_version((uint8_t *)small, 0) == n && small[n - 1] == 7);
+}
+
 static void *work(void *given) {
     long bad = 0; int i; hk_handle h = fresh(); hk_found found; uint8_t out[8]; (void)given;
     bad += hk_open(&h, 7, 1); bad += hk_absorb(&h, ITEM, sizeof ITEM); bad += hk_absorb(&h, MARK, sizeof MARK);
@@ -214,7 +222,7 @@ static void any_call(hk_handle *h, hk_handle *peer, const uint8_t *in, size_t le
     case 4: hk_prune(h, time); break;
     case 5: hk_merge(h, peer); break;
     case 6: hk_finish(h); hk_reply(h, next() % 300, out, room); break;
-    case 7: hk_words((uint8_t)next(), out, room); break;
+    case 7: hk_words((uint8_t)next(), out, room); hk_version(out, room % 8); break;
     case 8: if (next() % 8 == 0) hk_close(h); else if (next() % 2) hk_open(peer, 7, 1); else hk_open(h, 7, (uint16_t)(next() % 3)); break;
     case 9: case 10: case 11: hk_absorb(h, in, len); break;
     default: hk_call(h, in, len, out, room, &n);
@@ -311,7 +319,7 @@ int main(int argc, char **argv) {
     if (!strcmp(mode, "starve")) return starve();
     if (!strcmp(mode, "time")) return times(argc > 3 ? atol(argv[3]) : 1000000);
     if (!strcmp(mode, "moved")) moved();
-    else { sizes(); closed(); reads(); feeding(); changes(); replies(); moved(); words(); threads(); }
+    else { sizes(); closed(); reads(); feeding(); changes(); replies(); moved(); words(); version(); threads(); }
     printf("%d passed, %d failed\n", passed, failed);
     return failed != 0;
 }

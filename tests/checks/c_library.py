@@ -167,6 +167,7 @@ def in_rust():
     said, status = run([crate / "target" / "debug" / "examples" / "first", FIRST])
     lines = said.splitlines()
     report("Rust: the first example", differ([("prints", lines[:2], [WORDS, "1 rows, 1 with the tag"]), ("a refusal", lines[2][:11] if lines[2:] else "", "refused 26:"),
+                                              ("the library's version", lines[3:], [f"version {(ROOT / 'VERSION').read_text(encoding='utf-8').strip()}"]),
                                               ("status", status, 0)]))
     plays("Rust", [crate / "target" / "debug" / "examples" / "play"])
 

@@ -11,5 +11,6 @@ fn main() -> Result<(), Box<dyn std::error::Error>> {
     }
     println!("{} rows, {} with the tag", replica.range(time, 1, 0, u64::MAX)?.len(), replica.by_tag(time, 1, 9, 0)?.len());
     println!("{}", replica.get(time + 1, 1, 5).unwrap_err());
+    println!("version {}", hekaton::version());
     Ok(())
 }

@@ -39,6 +39,13 @@ fn done(number: u8) -> Result<(), Refused> {
     if number == 0 { Ok(()) } else { Err(Refused { number }) }
 }
 
+/// The version of the library that is linked.
+pub fn version() -> String {
+    let mut text = [0; 32];
+    let n = unsafe { sys::hk_version(text.as_mut_ptr(), text.len()) };
+    String::from_utf8_lossy(&text[..n.min(32)]).trim_end_matches('\0').to_string()
+}
+
 /// A row.
 #[derive(Clone, PartialEq, Eq, Debug)]
 pub struct Row {

@@ -36,4 +36,5 @@ extern "C" {
     pub fn hk_prune(handle: *mut Handle, horizon: u64) -> u8;
     pub fn hk_merge(handle: *mut Handle, peer: *mut Handle) -> u8;
     pub fn hk_words(number: u8, out: *mut u8, room: usize) -> usize;
+    pub fn hk_version(out: *mut u8, room: usize) -> usize;
 }

@@ -28,6 +28,9 @@ const CLOSED: u8 = 255;
 
 const MEMORY: u8 = 90;
 
+/// The version of all of Vadungsil, as C ends a text.
+const VERSION: &[u8] = b"0.1.0\0";
+
 /// Puts a replica in a handle, and frees what it held.
 fn put_back(alloc: Global, handle: &mut Handle, replica: Box<Replica>)
     ensures { handle.new.replica ≡ Some replica.value }
@@ -406,4 +409,15 @@ pub extern "C" fn hk_words(alloc: Global, number: u8, out: &mut [u8]) -> usize
     let words = line.as_bytes();
     let _copied = copy_prefix(words, out);
     words.len()
+}
+
+/// The version of this library, with a zero byte at its end: as much as there is room. How many bytes that has is
+/// returned.
+#[unsafe(no_mangle)]
+pub extern "C" fn hk_version(out: &mut [u8]) -> usize
+    ensures count { result ≡ length VERSION.now }
+    ensures copied { out.new ≡ copied_into out.old VERSION.now result }
+{
+    let _copied = copy_prefix(VERSION, out);
+    VERSION.len()
 }
