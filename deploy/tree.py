@@ -151,8 +151,8 @@ def of_pages(tree):
     shared, pages = f"{tree.prefix}/share/vadungsil", f"{tree.prefix}/share/doc/vadungsil"
     for name in SHARED:
         tree.folder(f"{shared}/{name}", ROOT / name)
-    for name in ("alerts.yml", "grafana-dashboard.json", *(f"stunnel/{it.name}" for it in sorted((ROOT / "deploy" / "stunnel").iterdir()))):
-        tree.copy(f"{shared}/deploy/{name}", ROOT / "deploy" / name)
+    for name in ("grafana", "prometheus", "stunnel"):
+        tree.folder(f"{shared}/deploy/{name}", ROOT / "deploy" / name)
     tree.link(f"{shared}/bin", "../../bin")
     tree.link(f"{shared}/docs", "../doc/vadungsil/docs")
     tree.link(f"{pages}/examples", "../../vadungsil/examples")

@@ -318,9 +318,10 @@ def completions(whole, of):
     """bash completes each command, each option and each query; the other shells read theirs, where they are."""
     asked, wanted = ["''"], [[it.words[0] for it in of.below] + ["help", "--help", "--version"]]
     for it in of.below:
-        flags = [flag for option in it.lists["Options"] for flag in option.flags() if flag.startswith("--")]
-        asked += [f"{it.words[0]} --", f"{it.words[0]} {flags[0]} ''", f"help {it.words[0]}"]
-        wanted += [flags, [] if it.lists["Options"][0].value() else [*(query.words[-1] for query in it.below), *flags], [it.words[0]]]
+        valued = {flag: option.value() for option in it.lists["Options"] for flag in option.flags() if flag.startswith("--")}
+        behind = [*(entry.name for entry in it.lists["Commands"]), *valued]
+        asked += [f"{it.words[0]} --", f"help {it.words[0]}", *(f"{it.words[0]} {flag} ''" for flag in valued)]
+        wanted += [[*valued], [it.words[0]], *([] if value else behind for value in valued.values())]
         for query in it.below:
             asked.append(f"ask {query.words[-1]}")
             wanted.append([query.words[-1]])

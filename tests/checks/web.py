@@ -38,8 +38,8 @@ import web_parts
 from checks import differ, ended, guarded, is_built, report, skip, timed
 from shown import of
 from client import PROGRAM
-from web_parts import (FRAMES, KEYS, LAST, LIMIT, PACKAGE, ROOT, STREAMS, Served, Web, breaks, changes_of, fed, log_of, nodes, parsed_metrics,
-                       quiet_port, rows_at, va, waited, web_of)
+from web_parts import (FRAMES, KEYS, LAST, LIMIT, PACKAGE, ROOT, STREAMS, Served, Web, breaks, changes_of, fed, log_of, nodes, page_of, parsed_metrics,
+                       parsed_openmetrics, quiet_port, rows_at, va, waited, web_of)
 
 ENVIRONMENT = {**os.environ, "PYTHONPATH": str(PACKAGE), "PYTHONDONTWRITEBYTECODE": "1"}
 HEADS = {"Content-Security-Policy": r"default-src 'none'; script-src 'self'; style-src 'self'; connect-src 'self'; img-src 'self'; base-uri 'none'; "
@@ -385,6 +385,88 @@ def metrics():
     report("/metrics", problems)
 
 
+PLAIN, OPEN = "text/plain; version=0.0.4; charset=utf-8", "application/openmetrics-text; version=1.0.0; charset=utf-8"
+# what a request accepts, and what it gets: OpenMetrics where it names that, and weighs plain text no more. The last two are Prometheus's, of 2.42 and of 3.0.
+ACCEPTED = (("", PLAIN), ("*/*", PLAIN), ("text/plain", PLAIN), ("text/html, */*;q=0.8", PLAIN), ("application/json", PLAIN), ("application/openmetrics-text", OPEN),
+            ("application/openmetrics-text; version=1.0.0", OPEN), ('Application/OpenMetrics-Text;version="1.0.0";charset=utf-8', OPEN),
+            ("application/openmetrics-text;version=0.0.1", PLAIN), ("application/openmetrics-text;version=1.0.0;q=0", PLAIN),
+            ("application/openmetrics-text;q=0.5, text/plain;q=0.6", PLAIN), ("application/openmetrics-text;q=0.5, text/*;q=0.6", PLAIN),
+            ("application/openmetrics-text;q=0.5, text/plain;q=0.5", OPEN), ("application/openmetrics-text;q=0.5, text/plain;q=0.1, */*", OPEN),
+            ("application/openmetrics-text;q=x", PLAIN), (";;q=,,=;", PLAIN), ("application/openmetrics-textual", PLAIN),
+            ("application/openmetrics-text;version=1.0.0,application/openmetrics-text;version=0.0.1;q=0.75,text/plain;version=0.0.4;q=0.5,*/*;q=0.1", OPEN),
+            ("application/openmetrics-text;version=1.0.0;escaping=allow-utf-8;q=0.5,application/openmetrics-text;version=0.0.1;q=0.4,"
+             "text/plain;version=1.0.0;escaping=allow-utf-8;q=0.3,text/plain;version=0.0.4;q=0.2,*/*;q=0.1", OPEN))
+
+
+def forms():
+    """/metrics is OpenMetrics where a request asks for it: the same samples, by a strict parser, and by Prometheus's own where promtool is there."""
+    problems = []
+    with nodes(2) as two, web_of([it.port for it in two]) as web:
+        web.json(f"/api/get?table=1&key=0&at={LAST + 1}")
+        web.asked("/metrics")       # which the next ones count
+        plain, (_, heads, body) = web.asked("/metrics")[2].decode(), web.asked("/metrics", Accept="application/openmetrics-text")
+        (kinds, samples), (open_kinds, open_samples) = parsed_metrics(plain), parsed_openmetrics(body.decode())
+        ends = {"counter": "_total", "info": "_info"}
+        problems += differ([("the form", heads["Content-Type"], OPEN), ("samples", sorted(open_samples), sorted(samples)),
+                            ("kinds", {name + ends.get(kind, ""): "gauge" if kind == "info" else kind for name, kind in open_kinds.items()}, kinds),
+                            ("infos", [name for name, kind in open_kinds.items() if kind == "info"], ["vadungsil_build"]),
+                            ("the version", [dict(labels)["version"] for (name, labels), value in samples.items() if name == "vadungsil_build_info" and value == 1.0], [va.__version__])])
+        problems += [f"{line} has no help before it" for before, line in zip(body.decode().splitlines(), body.decode().splitlines()[1:])
+                     if line.startswith("# TYPE ") and not before.startswith(f"# HELP {line.split(' ')[2]} ")]
+        for accept, wanted in ACCEPTED:
+            problems += differ([(f"Accept: {accept}", web.asked("/metrics", Accept=accept)[1]["Content-Type"], wanted)])
+        problems += differ([("HEAD", web.asked("/metrics", "HEAD", Accept="application/openmetrics-text")[1]["Content-Type"], OPEN)])
+        if shutil.which("promtool"):
+            problems += imported(body.decode(), len(open_samples))
+    for bad in ("a 1\n# EOF\n", "# HELP a b\n# TYPE a gauge\na 1\n", "# HELP a b\n# TYPE a gauge\na 1\n# EOF", "# HELP a b\n# TYPE a gauge\n# EOF\na 1\n# EOF\n",
+                "# HELP a_total b\n# TYPE a_total counter\na_total 1\n# EOF\n", "# HELP a b\n# TYPE a counter\na 1\n# EOF\n", "# HELP a b\n# TYPE a info\na 1\n# EOF\n"):
+        try:
+            parsed_openmetrics(bad)
+            problems.append(f"the parser takes {bad!r}")
+        except ValueError:
+            pass
+    report(f"/metrics in two forms, as a request asks ({len(ACCEPTED)})", problems)
+
+
+def imported(text, count):
+    """Prometheus's parser takes the text, once each sample has the time that an import wants, and finds as many series."""
+    stamped = "".join(line + ("\n" if line.startswith("#") else " 1700000000\n") for line in text.splitlines())
+    with tempfile.TemporaryDirectory() as folder:
+        (pathlib.Path(folder) / "metrics.txt").write_text(stamped, encoding="utf-8")
+        made = run(["promtool", "tsdb", "create-blocks-from", "openmetrics", f"{folder}/metrics.txt", f"{folder}/blocks"])
+        (pathlib.Path(folder) / "blocks" / "wal").mkdir()       # what a dump looks for
+        listed = run(["promtool", "tsdb", "dump", f"{folder}/blocks"])
+        (pathlib.Path(folder) / "metrics.txt").write_text(stamped.removesuffix("# EOF\n"), encoding="utf-8")
+        cut = run(["promtool", "tsdb", "create-blocks-from", "openmetrics", f"{folder}/metrics.txt", f"{folder}/more"])
+    return differ([("an import", (made.returncode, made.stderr), (0, b"")), ("its series", len(listed.stdout.splitlines()), count), ("one that is cut off", cut.returncode != 0, True)])
+
+
+def own_process():
+    """process_* are of the page's own process: what ps says of it, and what it was started with."""
+    problems, began = [], time.time()
+    with nodes(1) as (node,), page_of([node.port], before="ulimit -n 200;") as (web, child):
+        value = web.metric
+        until, ticks = time.time(), 2
+        problems += differ([("open files at most", value("process_max_fds"), 200.0),
+                            ("its start", began - ticks <= value("process_start_time_seconds") <= until + ticks, True)])
+        shown = lambda: [1024 * int(it) for it in run(["ps", "-o", "rss=,vsz=", "-p", child.pid]).stdout.split()]
+        for place, name in enumerate(("process_resident_memory_bytes", "process_virtual_memory_bytes")):
+            before, told, after = shown()[place], value(name), shown()[place]
+            problems += differ([(name, 0.5 * min(before, after) <= told <= 2 * max(before, after), True)])
+        # an answered request's socket may be open still: the least of some is without one
+        few, spent = min(value("process_open_fds") for _ in range(10)), value("process_cpu_seconds_total")
+        links = [opened_stream(web) for _ in range(5)]
+        for _, lines in links:
+            told_next(lines)
+        waited(lambda: value("process_open_fds") == few + 5)
+        for link, _ in links:
+            link.close()
+        while value("process_cpu_seconds_total") == spent:
+            pass
+        problems += differ([("seconds of processors", 0 < spent < value("process_cpu_seconds_total") <= os.cpu_count() * (time.time() - began + ticks), True)])
+    report("the metrics of the page's own process", problems)
+
+
 def interface():
     """Each path of the OpenAPI file is asked, and each answer, refusals and errors too, has the told fields and no others."""
     problems, count = [], 0
@@ -516,28 +598,6 @@ def look():
     report("make look", problems)
 
 
-def deployed():
-    """Alert rules and dashboard name only metrics that there are; each alert stands in docs/LOOKING.md."""
-    rules, problems = (ROOT / "deploy" / "alerts.yml").read_text(), []
-    dashboard = json.loads((ROOT / "deploy" / "grafana-dashboard.json").read_text())
-    looking = (ROOT / "docs" / "LOOKING.md").read_text()
-    from vadungsil.web import metrics as told
-    known = {family.name for family, _ in [*told.NODE, *told.STREAM]} | {told.REFUSED.name, told.SECONDS.name, "vadungsil_web_answers_total", "vadungsil_web_event_streams"}
-    known |= {f"{told.SECONDS.name}_{part}" for part in ("bucket", "sum", "count")}
-    asked = json.dumps([it.get("targets") for it in dashboard["panels"]])
-    for name, text in (("alerts.yml", rules), ("grafana-dashboard.json", asked), ("LOOKING.md", looking)):
-        problems += [f"{name}: no metric {it}" for it in sorted(set(re.findall(r"vadungsil_[a-z_]+", text)) - known)]
-    # a total only grows: what is looked at is how it grew
-    problems += [f"alerts.yml: the total itself in {it}" for it in re.findall(r"^ +expr: (.*)$", rules, re.M)
-                 if re.search(r"(?<!increase\()(?<!rate\()\bvadungsil_\w+_total", it)]
-    alerts = re.findall(r"^ +- alert: (\w+)$", rules, re.M)
-    problems += [f"{it} is not told in docs/LOOKING.md" for it in alerts if f"`{it}`" not in looking] + ([] if len(alerts) >= 5 else ["fewer than five alerts"])
-    if shutil.which("promtool"):
-        got = run(["promtool", "check", "rules", ROOT / "deploy" / "alerts.yml"])
-        problems += differ([("promtool", got.returncode, 0)])
-    report(f"alert rules and the dashboard ({len(alerts)} rules, {len(dashboard['panels'])} panels)", problems)
-
-
 def served_until_interrupted(words):
     """Whether a command said that it listens, and its status after Ctrl-C."""
     child = subprocess.Popen(["bash", "-c", f"exec {words}"], stdout=subprocess.PIPE, text=True, env=ENVIRONMENT)
@@ -574,7 +634,7 @@ def page():
 
 # the longest first
 CHECKS = (look, large_bodies, pictures, away_and_back, events, page, command, limits, answers, many_rows, refusals, unequal, bad_requests, damaged, silent_node, held_back, metrics,
-          interface, files, deployed)
+          forms, own_process, interface, files)
 
 
 def browser(words):

@@ -366,10 +366,16 @@ def browser_clock(driver):
     report("the lag of a log by the clock is in seconds", problems)
 
 
+# the middles of the slider and its two buttons, by height
+ROW = "return ['back', 'slider', 'on'].map(name => { const box = document.getElementById(name).getBoundingClientRect(); return (box.top + box.bottom) / 2; })"
+LATELY = "return [...document.querySelectorAll('#overview [data-name=\"lag lately\"]')].map(cell => cell.children.length)"
+
+
 def browser_widths(driver):
-    """At 1180 and at 390 points no text is smaller than 11, none of a drawing goes beyond it, and nothing scrolls sideways."""
+    """At 1180 and at 390 points no text is smaller than 11, none of a drawing goes beyond it, nothing scrolls sideways, and the slider is between its
+    buttons; of a node that was never there no lag is drawn."""
     problems, late = [], [it for it in story()]
-    with nodes(2, late, 3) as two, web_of([it.port for it in two], names={"tables": {}, "streams": {2: "the second one of all"}}) as web:
+    with nodes(2, late, 3) as two, web_of([*(it.port for it in two), quiet_port()], names={"tables": {}, "streams": {2: "the second one of all"}}) as web:
         for width in (1180, 390):
             driver.execute_cdp_cmd("Emulation.setDeviceMetricsOverride", {"width": width, "height": 844, "deviceScaleFactor": 1, "mobile": False})
             page = Page(driver, web, "kind=range&table=1&low=100&high=199&at=30&with=24")
@@ -377,6 +383,8 @@ def browser_widths(driver):
             waited(lambda: driver.execute_script(CHANGES) and driver.execute_script("return document.querySelectorAll('#nodes svg').length") == 2, 10)
             sizes = driver.execute_script(SIZES)
             problems += differ([(f"small at {width}", [it for it in sizes if it[0] < 11], []), (f"texts at {width}", len(sizes) > 60, True), (f"beyond at {width}", driver.execute_script(BEYOND), []),
+                                (f"in a row at {width}", max(driver.execute_script(ROW)) - min(driver.execute_script(ROW)) < 8, True),
+                                (f"lags drawn at {width}", driver.execute_script(LATELY), [1, 1, 0]),
                                 (f"sideways at {width}", driver.execute_script("return document.documentElement.scrollWidth - innerWidth") <= 0, True)])
         driver.execute_cdp_cmd("Emulation.clearDeviceMetricsOverride", {})
     report("the page at 1180 and at 390 points", problems)

@@ -1,13 +1,15 @@
-"""Parts for tests/checks/web.py and tests/checks/web_page.py: a log with its rows by tests/lib/reference.py, a web server of nodes, requests over HTTP, a strict
-reader of Prometheus's text form, and one of the schemas of the OpenAPI file. Standard library only."""
+"""Parts for tests/checks/web.py, web_page.py and alerts.py: a log with its rows by tests/lib/reference.py, a web server of nodes, requests over HTTP, a
+strict reader of the text forms of metrics, and one of the schemas of the OpenAPI file. Standard library only."""
 import contextlib
 import http.client
 import json
 import math
+import os
 import pathlib
 import random
 import re
 import socket
+import subprocess
 import sys
 import time
 
@@ -98,6 +100,21 @@ def web_of(ports, **more):
         server.stop()
 
 
+@contextlib.contextmanager
+def page_of(ports, *words, before=""):
+    """The command python3 -m vadungsil.web over the nodes on these ports, and its process; `before`: what the shell does first."""
+    named = [word for port in ports for word in ("--node", str(port))]
+    child = subprocess.Popen(["bash", "-c", f'{before} exec "$0" "$@"', sys.executable, "-m", "vadungsil.web", *named, "--http", "127.0.0.1:0", *words],
+                             stdout=subprocess.PIPE, text=True, env={**os.environ, "PYTHONPATH": str(PACKAGE), "PYTHONDONTWRITEBYTECODE": "1"})
+    try:
+        web = Web(port=int(re.fullmatch(r"listening http://127\.0\.0\.1:(\d+)/\n", child.stdout.readline())[1]))
+        waited(lambda: all(it["age"] is not None for it in web.json("/api/nodes")[1]["nodes"]))
+        yield web, child
+    finally:
+        child.terminate()
+        child.communicate(timeout=LIMIT)
+
+
 def waited(holds, seconds=LIMIT):
     """Waits until it holds, and gives the seconds that it took."""
     begin = time.monotonic()
@@ -144,38 +161,49 @@ class Web:
         return parsed_metrics(self.asked("/metrics")[2].decode())[1].get((name, tuple(sorted(labels.items()))))
 
 
-# ---------------------------------------------------------------- Prometheus's text form
+# ---------------------------------------------------------------- the text forms of metrics
 
 NAME = r"[a-zA-Z_:][a-zA-Z0-9_:]*"
 SAMPLE = re.compile(rf'({NAME})(?:\{{((?:[a-zA-Z_][a-zA-Z0-9_]*="(?:[^"\\\n]|\\[\\"n])*",?)*)\}})? (\S+)$')
 LABEL = re.compile(r'([a-zA-Z_][a-zA-Z0-9_]*)="((?:[^"\\\n]|\\[\\"n])*)"')
+# by the kind of a family: how the names of its samples go on behind its own name, in Prometheus's text form and in OpenMetrics
+PARTS = {"gauge": ("",), "counter": ("",), "histogram": ("_bucket", "_sum", "_count")}
+OPEN_PARTS = {**PARTS, "counter": ("_total",), "info": ("_info",)}
 
 
-def parsed_metrics(text):
-    """The types of the families and the samples by name and labels; a ValueError where a line or a histogram breaks the form."""
+def parsed_metrics(text, parts=None):
+    """The kinds of the families and the samples by name and labels; a ValueError where a line or a histogram breaks the form."""
     if not text.endswith("\n"):
         raise ValueError("the last line has no end")
-    types, helped, samples, family = {}, set(), {}, None
+    parts, kinds, helped, samples, family = parts or PARTS, {}, set(), {}, None
     for number, line in enumerate(text.split("\n")[:-1], 1):
         if line.startswith("# HELP "):
-            name, _, words = line[7:].partition(" ")
-            if name in helped or not words or not re.fullmatch(NAME, name):
+            family, _, words = line[7:].partition(" ")
+            if family in helped or not words or not re.fullmatch(NAME, family):
                 raise ValueError(f"line {number}: {line}")
-            helped.add(name)
-            family = name
+            helped.add(family)
         elif line.startswith("# TYPE "):
             name, kind = line[7:].split(" ")
-            if name in types or name != family or kind not in ("counter", "gauge", "histogram"):
+            if name in kinds or name != family or kind not in parts or (kind == "counter" and not (name + parts[kind][0]).endswith("_total")):
                 raise ValueError(f"line {number}: {line}")
-            types[name] = kind
+            kinds[name] = kind
         else:
             name, labels, value = _sample(line, number)
-            base = re.sub("_(bucket|sum|count)$", "", name) if types.get(family) == "histogram" else name
-            if base != family or family not in types or (name, labels) in samples or (types[family] == "counter" and not name.endswith("_total")):
+            if family not in kinds or name not in {family + it for it in parts[kinds[family]]} or (name, labels) in samples:
                 raise ValueError(f"line {number}: {line}")
             samples[name, labels] = value
-    _check_histograms(types, samples)
-    return types, samples
+    _check_histograms(kinds, samples)
+    return kinds, samples
+
+
+def parsed_openmetrics(text):
+    """The same of OpenMetrics, which says where it ends, and whose counters have their end in the names of samples alone."""
+    if not text.endswith("\n# EOF\n"):
+        raise ValueError("no end")
+    kinds, samples = parsed_metrics(text.removesuffix("# EOF\n"), OPEN_PARTS)
+    if any(kind == "counter" and name.endswith("_total") for name, kind in kinds.items()):
+        raise ValueError("a counter's family ends in _total")
+    return kinds, samples
 
 
 def _sample(line, number):

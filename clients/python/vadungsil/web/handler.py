@@ -11,7 +11,7 @@ from urllib.parse import parse_qsl, urlsplit
 
 from ..errors import Refused
 from .api import Unknown, json_of_refusal
-from .metrics import TYPE
+from .exposition import form_for
 from .questions import BadQuestion
 from .watch import Away
 
@@ -137,7 +137,8 @@ class Handler(BaseHTTPRequestHandler):
             data, kind = self.server.assets[parts.path]
             self.send(200, data, kind)
         elif self.path == "/metrics":
-            self.send(200, self.server.metrics(), TYPE)
+            form = form_for(",".join(self.headers.get_all("Accept", [])))
+            self.send(200, self.server.metrics(form), form)
         elif self.path == "/api/events":
             self.stream()
         elif self.path.startswith("/api/"):

@@ -10,6 +10,10 @@ KINDS = ("get", "range", "tag", "count", "front", "delta")
 BOUNDS = (0.0005, 0.001, 0.0025, 0.005, 0.01, 0.025, 0.05, 0.1, 0.25, 0.5, 1.0, 2.5, 5.0, 10.0)
 
 
+# Of this refusal there is a count from the start on: a rate sees no step from nothing to 1.
+OUT_OF_MEMORY = 90
+
+
 class Times(NamedTuple):
     """A histogram: how many answers took at most each bound, the sum of seconds, and how many there were."""
 
@@ -26,7 +30,7 @@ class Meters:
         self._within: Dict[str, List[int]] = {kind: [0] * len(BOUNDS) for kind in KINDS}
         self._total = dict.fromkeys(KINDS, 0.0)
         self._count = dict.fromkeys(KINDS, 0)
-        self._refused: Dict[int, int] = {}
+        self._refused: Dict[int, int] = {OUT_OF_MEMORY: 0}
         self._opened = self._broken = 0
 
     def answered(self, kind: str, seconds: float, number: int) -> None:

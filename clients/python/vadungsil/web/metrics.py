@@ -1,42 +1,13 @@
-"""/metrics: what nodes reported, in the text form of Prometheus (version 0.0.4)."""
+"""/metrics: what nodes reported, and what this server counted."""
 from __future__ import annotations
 
-from typing import Any, Callable, Dict, Iterable, List, NamedTuple, Tuple, Union
+import platform
+from typing import Any, Callable, Dict, Iterable, List, Tuple
 
-from .meters import BOUNDS
+from .. import __version__
+from .exposition import Families, Family, Sample, Value
+from .meters import BOUNDS, Times
 from .watch import StreamState, Watched
-
-Value = Union[int, float, bool]
-Sample = Tuple[Dict[str, str], Value]
-TYPE = "text/plain; version=0.0.4; charset=utf-8"
-
-
-class Family(NamedTuple):
-    """A metric: its name, its type, what it is."""
-
-    name: str
-    kind: str
-    told: str
-
-
-def _escaped(text: str) -> str:
-    return text.replace("\\", "\\\\").replace("\n", "\\n").replace('"', '\\"')
-
-
-def line_of(name: str, labels: Dict[str, str], value: Value) -> str:
-    listed = ",".join(f'{label}="{_escaped(text)}"' for label, text in labels.items())
-    return (
-        f"{name}{{{listed}}} {int(value) if isinstance(value, (bool, int)) else repr(value)}"
-        if listed
-        else f"{name} {value}"
-    )
-
-
-def lines_of(family: Family, samples: Iterable[Sample]) -> List[str]:
-    """A family's lines; none where it has no samples."""
-    lines = [line_of(family.name, labels, value) for labels, value in samples]
-    return [f"# HELP {family.name} {family.told}", f"# TYPE {family.name} {family.kind}", *lines] if lines else []
-
 
 # ---------------------------------------------------------------- of a node
 
@@ -61,6 +32,24 @@ NODE: List[Tuple[Family, Callable[[Watched], Any]]] = [
     (
         Family("vadungsil_readable", "gauge", "The resolved time: the newest that can be read."),
         lambda it: it.state.readable if it.state.is_known else None,
+    ),
+    (
+        Family("vadungsil_lag", "gauge", "How far the resolved time is behind the newest time of any node of its log."),
+        lambda it: it.lag,
+    ),
+    (
+        Family("vadungsil_lacks", "gauge", "Entries that another node of its log has and this one lacks."),
+        lambda it: it.lacks,
+    ),
+    (
+        Family(
+            "vadungsil_operations_total", "counter", "Operations that the node has done, if it is asked (--messages 2)."
+        ),
+        lambda it: it.state.operations,
+    ),
+    (
+        Family("vadungsil_least_pinned", "gauge", "The least pinned time, if there is one (--messages 2)."),
+        lambda it: it.state.least_hold,
     ),
     (
         Family(
@@ -108,48 +97,48 @@ SECONDS = Family(
 )
 
 
-def _node_lines(nodes: List[Watched]) -> List[str]:
-    lines: List[str] = []
+BUILD = Family("vadungsil_build_info", "info", "The version of this server, and of the Python that runs it.")
+ANSWERS = Family("vadungsil_web_answers_total", "counter", "Answers of this server over HTTP, by status.")
+EVENTS = Family("vadungsil_web_event_streams", "gauge", "Event streams that are open.")
+
+
+def _of_nodes(nodes: List[Watched]) -> Families:
     for family, read in NODE:
         pairs = [(it.name, read(it)) for it in nodes]
-        lines += lines_of(family, [({"node": name}, value) for name, value in pairs if value is not None])
-    for family, read_stream in STREAM:
-        lines += lines_of(
-            family,
-            [
-                ({"node": it.name, "stream": str(stream.number)}, read_stream(stream))
-                for it in nodes
-                if it.state.is_known
-                for stream in it.state.streams
-            ],
-        )
-    return lines
+        yield family, [Sample({"node": name}, value) for name, value in pairs if value is not None]
 
 
-def _histogram(watched: Watched) -> Iterable[str]:
-    for kind, times in watched.meters.times().items():
-        labels = {"node": watched.name, "kind": kind}
-        for bound, within in zip(BOUNDS, times.within):
-            yield line_of(f"{SECONDS.name}_bucket", {**labels, "le": repr(bound)}, within)
-        yield line_of(f"{SECONDS.name}_bucket", {**labels, "le": "+Inf"}, times.count)
-        yield line_of(f"{SECONDS.name}_sum", labels, times.total)
-        yield line_of(f"{SECONDS.name}_count", labels, times.count)
+def _of_streams(nodes: List[Watched]) -> Families:
+    known = [(it.name, stream) for it in nodes if it.state.is_known for stream in it.state.streams]
+    for family, read in STREAM:
+        yield family, [Sample({"node": name, "stream": str(it.number)}, read(it)) for name, it in known]
 
 
-def text_of(nodes: Iterable[Watched], own: Iterable[Tuple[Family, Iterable[Sample]]] = ()) -> str:
-    """All metrics; `own` are those of the server."""
+def _refused(watched: Watched) -> Iterable[Sample]:
+    for number, count in watched.meters.refused().items():
+        yield Sample({"node": watched.name, "number": str(number)}, count)
+
+
+def _histogram(labels: Dict[str, str], times: Times) -> Iterable[Sample]:
+    for bound, within in zip(BOUNDS, times.within):
+        yield Sample({**labels, "le": repr(bound)}, within, "_bucket")
+    yield Sample({**labels, "le": "+Inf"}, times.count, "_bucket")
+    yield Sample(labels, times.total, "_sum")
+    yield Sample(labels, times.count, "_count")
+
+
+def of_nodes(nodes: Iterable[Watched]) -> Families:
+    """What the nodes reported, and what this server counted of each."""
     found = list(nodes)
-    lines = _node_lines(found)
-    lines += lines_of(
-        REFUSED,
-        [
-            ({"node": it.name, "number": str(number)}, count)
-            for it in found
-            for number, count in it.meters.refused().items()
-        ],
-    )
-    lines += [f"# HELP {SECONDS.name} {SECONDS.told}", f"# TYPE {SECONDS.name} {SECONDS.kind}"]
-    lines += [line for it in found for line in _histogram(it)]
-    for family, samples in own:
-        lines += lines_of(family, samples)
-    return "\n".join([*lines, ""])
+    yield from _of_nodes(found)
+    yield from _of_streams(found)
+    yield REFUSED, [sample for it in found for sample in _refused(it)]
+    told = [({"node": it.name, "kind": kind}, times) for it in found for kind, times in it.meters.times().items()]
+    yield SECONDS, [sample for labels, times in told for sample in _histogram(labels, times)]
+
+
+def of_server(statuses: Dict[int, int], streams_open: int) -> Families:
+    """What this server is and has answered."""
+    yield BUILD, [Sample({"version": __version__, "python": platform.python_version()}, 1)]
+    yield ANSWERS, [Sample({"code": str(status)}, count) for status, count in sorted(statuses.items())]
+    yield EVENTS, [Sample({}, streams_open)]

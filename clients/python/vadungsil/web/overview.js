@@ -75,7 +75,7 @@ function row(node) {
   const said = saidOf(node), clock = clockWords(node.readable);
   const it = make("tr", {}, make("th", { scope: "row" }, node.node), cell("state", make("span", { class: said === "up" ? "pill" : "pill no" }, said)),
     cell("resolved time", node.readable ?? "", ...(clock ? [make("span", { class: "soft" }, ` ${clock}`)] : [])), cell("oldest readable", node.horizon ?? ""), cell("lag", lagWords(node)),
-    cell("lag lately", sparkline(node.lags, isOfClock(node))), cell("operations", node.operations ?? ""), cell("least pinned", node.least_hold ?? ""),
+    cell("lag lately", ...(node.lags.some((lag) => lag !== null) ? [sparkline(node.lags, isOfClock(node))] : [])), cell("operations", node.operations ?? ""), cell("least pinned", node.least_hold ?? ""),
     cell("seen up for", secondsWords(node.up_for)));
   it.dataset.node = node.node;
   return it;

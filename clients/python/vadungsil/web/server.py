@@ -7,13 +7,16 @@ import pathlib
 import socket
 import threading
 from http.server import ThreadingHTTPServer
+from itertools import chain
 from typing import Any, Dict, Iterable, List, Optional, Tuple
 
 from ..address import Address, place_of
 from ..link import Certificates
 from .api import Api, Names
+from .exposition import text_of
 from .handler import Handler
-from .metrics import Family, Sample, text_of
+from .metrics import of_nodes, of_server
+from .process import process
 from .watch import watched_by_name
 
 # Requests that are answered at once, and event streams among them.
@@ -164,13 +167,12 @@ class Server(ThreadingHTTPServer):
         with self._counts_lock:
             self._statuses[status] = self._statuses.get(status, 0) + 1
 
-    def metrics(self) -> bytes:
+    def metrics(self, form: str) -> bytes:
+        """All metrics in a form of exposition.py."""
         with self._counts_lock:
-            answered = [({"code": str(status)}, count) for status, count in sorted(self._statuses.items())]
-        answers = Family("vadungsil_web_answers_total", "counter", "Answers of this server over HTTP, by status.")
-        streams = Family("vadungsil_web_event_streams", "gauge", "Event streams that are open.")
-        own: List[Tuple[Family, Iterable[Sample]]] = [(answers, answered), (streams, [({}, self.streams_open)])]
-        return text_of(self.nodes.values(), own).encode()
+            statuses, streams_open = dict(self._statuses), self.streams_open
+        families = chain(of_nodes(self.nodes.values()), of_server(statuses, streams_open), process())
+        return text_of(families, form).encode()
 
     def open_stream(self) -> bool:
         """A place for an event stream, if there is one; `close_stream` gives it back."""
