@@ -21,7 +21,7 @@ import messages as say
 import reference
 from checks import differ, ended, guarded, is_built, report, skip
 from crowd import Crowd, Pause, Say, raised_files
-from staying import LIMIT, PROGRAM, Staying
+from staying import BATCH, LIMIT, PROGRAM, Staying
 
 LINKS = 5_000
 # files beside those of the links: of this script, and of the node
@@ -252,11 +252,22 @@ class Crowded:
     def read_at_last(self):
         self.all_play(self.play.reads_at_last, [number for number in self.play.unread if self.members[number].socket.fileno() >= 0])
 
-    def end(self):
-        """Some close and some break off; gives how all ended, each number with how often."""
-        for number, member in enumerate(list(self.crowd.members.values())):
+    def ends(self, count):
+        """The next so many ends that are told."""
+        return collections.Counter(self.node.line() for _ in range(count))
+
+    def end_some(self, members):
+        for number, member in enumerate(members):
             (member.close if number % 2 else member.leave)()
-        return collections.Counter(self.node.line() for _ in range(self.links + 2))
+        return self.ends(len(members))
+
+    def end(self):
+        """Some close and some break off, in batches so small that no line of an end is dropped; gives how all ended, each number with how often."""
+        left = list(self.crowd.members.values())
+        told = self.ends(self.links + 2 - len(left))
+        for first in range(0, len(left), BATCH):
+            told += self.end_some(left[first:first + BATCH])
+        return told
 
 
 def role_of(number):

@@ -20,7 +20,7 @@ sys.path.append(str(pathlib.Path(__file__).resolve().parents[1] / "lib"))
 import messages as say
 from checks import differ, ended, free_port, guarded, is_built, report
 from messages import E1, TOO_LONG
-from staying import PROGRAM, OwnNode, Staying, is_silent, said
+from staying import BATCH, PROGRAM, OwnNode, Staying, is_silent, said
 
 PUSHED = say.items(E1, say.mark(1, 1, 1))
 GET = say.ask(1, say.get(1, 5))
@@ -81,15 +81,20 @@ ENDS = {"nothing": {"ended 0"}, "half a frame": {"ended 1", "ended 92"}, "anothe
         "a reset": {"ended 0", "ended 91"}}
 
 
+def hurt_batch(node, kind, count):
+    """So many bad peers of a kind, one after the other; how they ended."""
+    for _ in range(count):
+        hurt(node.port, kind)
+    return {node.line() for _ in range(count)}
+
+
 def hurt_often(node, count):
-    """So many bad peers of each kind, one after the other; what is wrong with how they ended."""
+    """So many bad peers of each kind, in batches so small that no line of an end is dropped; what is wrong with how they ended."""
     problems = []
     for kind, ends in ENDS.items():
-        for _ in range(count):
-            hurt(node.port, kind)
-        told = {node.line() for _ in range(count)}
+        told = set().union(*(hurt_batch(node, kind, min(BATCH, count - done)) for done in range(0, count, BATCH)))
         if not told <= ends:
-            problems.append(f"{kind}: {sorted(told)}")
+            problems.append(f"{kind}: {sorted(map(str, told))}")
     return problems
 
 
@@ -97,7 +102,7 @@ def is_unproved():
     return "unproved" in subprocess.run([str(PROGRAM), "--version"], capture_output=True, text=True, check=False).stdout
 
 
-def bad_peers():
+def ten_thousand_connects():
     """Ten thousand connects that say nothing, half a frame, another protocol's bytes, or reset: another link is answered beside most
     of them, and after them memory doesn't grow any more."""
     with Staying(5) as node:
@@ -221,7 +226,8 @@ def links_that_feed():
 
 
 def no_more_files():
-    """Where no file is left an accept is told as failed and tried again, without much work, and links go on."""
+    """Where no file is left an accept is told as failed and tried again, without much work, and links go on; those that fail behind it are told once a second, by their number, until
+    for a second none fails."""
     with Staying(4, "--workers", "1") as node:
         with node.link() as first:
             pairs = [("the first", first.ask(say.front()), ("front", 0, 0))]
@@ -231,14 +237,23 @@ def no_more_files():
             second = node.link()
             pairs.append(("the second", second.ask(say.front()), ("front", 0, 0)))
             with node.link() as third:
+                before, start = node.processor(), time.monotonic()
                 third.send(say.front())
-                before = node.processor()
                 pairs.append(("a third waits", is_silent(third, 1), True))
                 pairs.append(("it does not spin", node.processor() - before < 50, True))
+                heard(node, "not accepted 93 (")
                 second.close()
                 pairs += [("the end of the second", node.line(), "ended 0"), ("the third after it", third.reply(), ("front", 0, 0))]
-    told = [line for line in node.words if "not accepted 93" in line]
-    report("a node that stays and can open no further file", differ(pairs + [("it is told", bool(told), True)]))
+                seconds, told = time.monotonic() - start, [line for line in list(node.words) if line.startswith("not accepted 93")]
+                more = [bool(re.fullmatch(r"not accepted 93 \([1-9]\d* more\)\n", line)) for line in told]
+                pairs += [("the first is told", told[0][:17], "not accepted 93: "), ("and then how many more", more, [False] + [True] * (len(told) - 1)), ("once a second", 2 <= len(told) <= seconds + 2, True)]
+            pairs.append(("the end of the third", node.line(), "ended 0"))
+            time.sleep(1.5)
+            with node.link() as fourth, node.link() as fifth:
+                fifth.send(say.front())
+                pairs += [("a fourth", fourth.ask(say.front()), ("front", 0, 0)), ("a fifth waits", is_silent(fifth), True)]
+    pairs.append(("it is told as a first again", sum(line.startswith("not accepted 93: ") for line in node.words), 2))
+    report("a node that stays and can open no further file", differ(pairs))
 
 
 def signals():
@@ -417,7 +432,7 @@ def bad_node_lines():
                         (["--from", ",".join(map(str, range(1, 10)))], "invalid value '9' for '--from <NODE>'"), (["--parts-bytes", "0%"], "invalid value '0%' for '--link-bytes <BYTES>'"),
                         (["--link-bytes", "101%"], "for '--link-bytes <BYTES>'"), (["--link-bytes", "x"], "for '--link-bytes <BYTES>'"), (["--address", "::g"], "invalid value '::g' for '--address <A>'"),
                         (["--links", "65536"], "'65536' for '--links <N>'"), (["--read-port", "7421"], "--read-links"), (["--guard"], "--guard"),
-                        (["--stay"], "--stay"), (["-q", "-v"], "--verbose"), (["--read-seconds", "+1"], "'+1'"), (["--write-seconds", "86401"], "'86401' for '--write-seconds <N>'"),
+                        (["--stay"], "--stay"), (["-q", "-v"], "--verbose"), (["--read-seconds", "+1"], "'+1'"), (["--write-seconds", "86401"], "'86401' for '--write-seconds <N>'"), (["--read-rate", "1048577"], "'1048577' for '--read-rate <BYTES>'"),
                         (["--workers", "0"], "'0' for '--workers <N>'"), (["--workers", "32"], "'32' for '--workers <N>'"), (["--read-socket"], "--read-socket")):
         done = subprocess.run([str(PROGRAM), "node", "--log", "7", "--streams", "1", *words], capture_output=True, text=True, timeout=30, check=False)
         pairs.append((" ".join(words), (done.returncode, done.stdout, part in done.stderr), (2, "", True)))
@@ -453,7 +468,7 @@ def addresses_and_bad_lines():
             pass
     plain = ["--log", "7", "--streams", "1", "--port", "47999", "--links"]
     for words in (["1", "--address", "127.0.0.1"], ["1", "--read-seconds", "3"], ["1", "--read-port", "47998", "--read-links", "1"],
-                  ["1", "--stay", "--read-port", "47998"], ["1", "--stay", "--read-links", "1"], ["65"], ["65536", "--stay"], ["1", "--workers", "1"], ["1", "--write-seconds", "3"], ["1", "--idle-seconds", "3"],
+                  ["1", "--stay", "--read-port", "47998"], ["1", "--stay", "--read-links", "1"], ["65"], ["65536", "--stay"], ["1", "--workers", "1"], ["1", "--write-seconds", "3"], ["1", "--idle-seconds", "3"], ["1", "--read-rate", "3"], ["1", "--socket", "/tmp/unused"], ["1", "--read-socket", "/tmp/unused"], ["1", "--stay", "--socket"],
                   ["1", "--stay", "--address", "node"], ["1", "--stay", "--read-seconds", "86401"], ["1", "--stay", "--read-seconds", "+1"], ["1", "-q"], ["1", "-v"], ["1", "--stay", "-q", "-v"],
                   ["1", "--report-changes", "2"], ["1", "--stay", "--report-changes", "0"], ["1", "--feed-port", "47998", "--feed-links", "1"],
                   ["1", "--stay", "--feed-port", "47998"], ["1", "--stay", "--feed-links", "1"], ["1", "--stay", "--read-port", "47998", "--read-links", "65536"]):
@@ -476,7 +491,7 @@ def main():
         return ended()
     start = time.monotonic()
     for check in (places_are_given_back, ends_soon_after_a_fault, limits_of_time, links_that_only_read, links_that_feed, no_more_files, signals, what_is_told, changes_are_told, changes_are_guarded, what_a_node_opens, what_a_node_logs, full_pipes,
-                  bad_node_lines, addresses_and_bad_lines, bad_peers):
+                  bad_node_lines, addresses_and_bad_lines, ten_thousand_connects):
         if sys.argv[1:] and check.__name__ not in sys.argv[1:]:
             continue
         guarded(check)

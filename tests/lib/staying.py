@@ -10,6 +10,11 @@ from checks import free_port
 
 PROGRAM = pathlib.Path(__file__).resolve().parents[2] / "bin" / "hkrep"
 LIMIT = 30
+# how many connections may come and go before the lines of their ends are read: a node prints three texts of each, and drops lines where 1,024 texts wait
+# to be written
+BATCH = 200
+# how many lines of standard error are told where a line of standard output lacks
+LAST_WORDS = 5
 
 
 def said(pipe):
@@ -55,7 +60,10 @@ class Running:
 
     def line(self, limit=LIMIT):
         """The next line that it prints, or None where it ended."""
-        return self.lines.get(timeout=limit)
+        try:
+            return self.lines.get(timeout=limit)
+        except queue.Empty:
+            raise RuntimeError(f"the node printed no line for {limit} s; last on standard error: {self.words[-LAST_WORDS:]}") from None
 
     def link(self, port=None):
         return say.Link(port or self.port, LIMIT, self.address)
