@@ -1,6 +1,6 @@
 //! What a copy of the node's state holds, and what operations make of it.
 
-ghost use Rattle.std.specs.Prelude.{◌≡◌, ◌⊎◌, ◌<◌, ◌≤◌, ◌^◌, None, IfOk, IfErr, MatchResult};
+ghost use Rattle.std.specs.Prelude.{◌≡◌, ◌⊎◌, ◌<◌, ◌≤◌, ◌^◌, true, None, IfOk, IfErr, MatchResult};
 ghost use Rattle.std.specs.Option.{option_map};
 ghost use Rattle.hk_types.specs.declared.faults.Refusal.TheVariants.{Damaged, Memory};
 ghost use Rattle.hk_model.specs.Replica.Fragments.{cut};
@@ -10,7 +10,10 @@ ghost use Rattle.hk_model.specs.Replica.Pages.{page_seen};
 ghost use Rattle.hk_model.specs.Replica.StreamsTold.{streams_seen};
 ghost use Rattle.hk_oplog.specs.declared.op.Op.TheVariants.{Hold as HoldAt, Join as JoinOf, Prune as PruneTo, Release};
 ghost use Rattle.hk_oplog.specs.Replay as spec;
+ghost use Rattle.std.specs.BTreeMap as tree;
 ghost use Rattle.std.specs.List.{list_any};
+ghost use Rattle.std.specs.Ordering.{nat_cmp};
+ghost use Rattle.hk_oplog.specs.Pins.{pins_of};
 ghost use Rattle.hk_oplog.specs.Replay.{is_hold, content_after_op, start_content, effect, full_refusal, held_refusal, past_refusal, prune_reach, refusal_of, IsApplied};
 ghost use Rattle.hk_merge.specs.Sent.{fragment_sent};
 ghost use Rattle.hk_oplog.specs.Guarded.{AgreesWith};
@@ -26,6 +29,7 @@ use hk_query::{ask, latest, page};
 use hk_state::{ReplicaState, front_of};
 use hk_types::{Config, Key, LAST_OP, Refusal, Table, Time};
 use std::alloc::{AllocError, Global};
+use std::collections::BTreeMap;
 use std::marker::Model;
 
 /// The number of the operation after so many, or `NodeFull` after `LAST_OP` of them. It takes no memory.
@@ -43,7 +47,8 @@ pub fn next_op(count: u64) -> Result<u64, Refusal>
 #[derive(Drop)]
 pub struct Body {
     state: ReplicaState,
-    holds: Vec<Hold>,
+    /// The active pins, by their numbers.
+    holds: BTreeMap<u64, Time>,
     damaged: bool,
     guarded: bool,
     hold_count: u64,
@@ -53,50 +58,50 @@ pub struct Body {
 impl Model for Body {
     ghost use Rattle.std.specs.Prelude.{◌≤◌, ◌^◌};
     ghost use Rattle.hk_oplog.specs.NodeContent.{NodeContent, node_code};
+    ghost use Rattle.hk_oplog.specs.Pins.{AreNumbered, pins_of};
 
     ghost Value = { NodeContent };
 
     ghost coded = { node_code };
 
-    ghost view = { λ b. record { content = b.state; holds = b.holds.items; damaged = b.damaged; guarded = b.guarded; hold_count = b.hold_count; op_count = b.op_count } };
+    ghost view = { λ b. record { content = b.state; holds = pins_of b.holds; damaged = b.damaged; guarded = b.guarded; hold_count = b.hold_count; op_count = b.op_count } };
 
-    ghost invariant = { λ b. (b.hold_count ≤ b.op_count) × (b.op_count ≤ 2 ^ 62) };
+    ghost invariant = { λ b. (b.hold_count ≤ b.op_count) × (b.op_count ≤ 2 ^ 62) × AreNumbered b.hold_count b.holds };
 }
 
 /// The first of two pins, by time and then by number.
-fn first_of_two(least: Option<Hold>, hold: &Hold) -> Option<Hold>
-    ensures { result ≡ spec.first_of_two least hold.now }
+fn first_of_two(least: Option<Hold>, reader: u64, at: Time) -> Option<Hold>
+    ensures { result ≡ spec.first_of_two least (record { reader = reader; at = at }) }
 {
     if let Some(least) = least {
-        let is_before = hold.at < least.at || (hold.at == least.at && hold.reader < least.reader);
+        let is_before = at < least.at || (at == least.at && reader < least.reader);
         if !is_before {
             return Some(least);
         }
     }
-    Some(Hold {
-        reader: hold.reader,
-        at: hold.at,
-    })
+    Some(Hold { reader, at })
 }
 
 /// The pin of the least time, and of the least number there. It takes no memory.
-fn least_hold(holds: &[Hold]) -> Option<Hold>
-    ensures { result ≡ spec.least_hold holds.now }
+fn least_hold(holds: &BTreeMap<u64, Time>) -> Option<Hold>
+    ensures { result ≡ spec.least_hold (pins_of holds.now) }
 {
     let mut least = None;
-    for hold in holds {
-        least = first_of_two(least, hold);
+    for (reader, at) in holds.iter() {
+        least = first_of_two(least, *reader, *at);
     }
     least
 }
 
-/// Whether a pin of this number and time is among these. It takes no memory.
-fn is_among(holds: &[Hold], reader: u64, at: Time) -> bool
-    ensures { result ≡ list_any (is_hold reader at) holds.now }
+/// Whether a pin of this number and time is among these. It takes no memory. Cost: O(log h), h pins.
+fn is_among(holds: &BTreeMap<u64, Time>, reader: u64, at: Time) -> bool
+    requires { tree.IsOrdered nat_cmp holds.now }
+    ensures { result ≡ list_any (is_hold reader at) (pins_of holds.now) }
 {
-    holds
-        .iter()
-        .any(|hold| hold.reader == reader && hold.at == at)
+    match holds.get(&reader) {
+        Some(time) => *time == at,
+        None => false,
+    }
 }
 
 impl Body {
@@ -107,7 +112,7 @@ impl Body {
     {
         Ok(Body {
             state: ReplicaState::new(alloc, kind.config)?,
-            holds: Vec::new(alloc),
+            holds: BTreeMap::new(alloc),
             damaged: false,
             guarded: kind.guarded,
             hold_count: 0,
@@ -341,7 +346,7 @@ impl Body {
     }
 
     /// Why an operation is refused, if it is. It is never refused for want of memory. Cost: O(s + h), s streams, h active
-    /// pins, which are looked at where a join would raise the oldest readable time, and for a release; where this is guarded,
+    /// pins, which are looked at where a join would raise the oldest readable time; a release costs O(log h); where this is guarded,
     /// for a join or merge also that of `conflicts_with` and of `hk_merge::join_touches_past`, for a prune that of
     /// `ReplicaState::prune_touches_past`.
     pub fn refusal(&self, op: &Op) -> Option<Refusal>
@@ -425,18 +430,19 @@ impl Body {
         ensures { MatchResult result (λ _. self.new ≡ effect self.old (HoldAt at)) (λ _. self.new ≡ self.old) }
     {
         let reader = self.hold_count + 1;
-        self.holds.push(Hold { reader, at })?;
+        self.holds.insert(reader, at)?;
         self.hold_count = reader;
         self.op_count += 1;
         Ok(())
     }
 
+    /// Removes a pin that is among the active ones. Cost: O(log h), h pins.
     fn release(&mut self, reader: u64, at: Time)
-        requires { self.old.op_count < 2 ^ 62 }
+        requires room { self.old.op_count < 2 ^ 62 }
+        requires among { list_any (is_hold reader at) self.old.holds ≡ true }
         ensures { self.new ≡ effect self.old (Release reader at) }
     {
-        self.holds
-            .retain(|hold| !(hold.reader == reader && hold.at == at));
+        self.holds.remove(&reader);
         self.op_count += 1;
     }
 
