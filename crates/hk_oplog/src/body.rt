@@ -1,6 +1,6 @@
 //! What a copy of the node's state holds, and what operations make of it.
 
-ghost use Rattle.std.specs.Prelude.{◌≡◌, ◌⊎◌, ◌<◌, ◌≤◌, ◌^◌, true, None, IfOk, IfErr, MatchResult};
+ghost use Rattle.std.specs.Prelude.{◌≡◌, ◌⊎◌, ◌<◌, ◌≤◌, ◌^◌, true, length, None, IsOk, IfOk, IfErr, MatchResult};
 ghost use Rattle.std.specs.Option.{option_map};
 ghost use Rattle.hk_types.specs.declared.faults.Refusal.TheVariants.{Damaged, Memory};
 ghost use Rattle.hk_model.specs.Replica.Fragments.{cut};
@@ -16,11 +16,14 @@ ghost use Rattle.std.specs.Ordering.{nat_cmp};
 ghost use Rattle.hk_oplog.specs.Pins.{pins_of};
 ghost use Rattle.hk_oplog.specs.Replay.{is_hold, content_after_op, start_content, effect, full_refusal, held_refusal, past_refusal, prune_reach, refusal_of, IsApplied};
 ghost use Rattle.hk_merge.specs.Sent.{fragment_sent};
+ghost use Rattle.hk_store.specs.Reads.{facts_of_content};
+ghost use Rattle.hk_store.specs.TableLists.{AreTables};
 ghost use Rattle.hk_oplog.specs.Guarded.{AgreesWith};
 ghost use Rattle.hk_oplog.specs.NewItems.{count_new};
 ghost use Rattle.hk_oplog.specs.Replies.{Answers, GivesOrMemory, GivesSeen, timed_seen, node_delta, node_front, node_latest, node_page, node_reply, node_streams, node_whole};
 
 use crate::op::{Hold, NodeKind, Op};
+use crate::sizes::NodeSizes;
 use hk_delta::{Fragment, agreed_so, conflicts_with, delta_since, join, whole_of};
 use hk_log::Item;
 use hk_merge::{Sent, join_touches_past, wrong_log};
@@ -566,6 +569,83 @@ impl Body {
             least_hold: self.least_held(),
             streams,
         })
+    }
+
+    /// How much it holds, and how far its list is, even where it failed. It takes no memory. Cost: O(1).
+    pub fn sizes(&self) -> NodeSizes
+        ensures operations { result.operations ≡ self.now.op_count }
+        ensures pins { result.pins ≡ length self.now.holds }
+        ensures guarded { result.guarded ≡ self.now.guarded }
+        ensures damaged { result.damaged ≡ self.now.damaged }
+    {
+        let tally = self.state.facts().tally();
+        NodeSizes {
+            rows: tally.rows,
+            ends: tally.ends,
+            bytes: tally.bytes,
+            operations: self.op_count,
+            pins: self.holds.len() as u64,
+            guarded: self.guarded,
+            damaged: self.damaged,
+        }
+    }
+
+    /// The tables of which it holds a row or an end, by rising number, even where it failed. The only error is out of memory. Cost:
+    /// O(t · log n), t tables, n facts.
+    pub fn tables(&self, alloc: Global) -> Result<Vec<Table>, AllocError>
+        ensures { IfOk result (λ tables. AreTables (facts_of_content self.now.content) tables.items) }
+    {
+        self.state.facts().tables(alloc)
+    }
+
+    /// Whether its full snapshot, or what it holds since a time above 0, has more bytes in a message than so many, at most counted.
+    /// Where it would be refused for another reason it says no. Cost: O(1) for the full snapshot, and where all that is held has no
+    /// more bytes; else O((1 + k) · log n), k versions with a row or an end above the time, n facts.
+    pub fn is_cut_above(&self, alloc: Global, base: Time, room: u64) -> bool
+        ensures whole { result ≡ true → IsOk (node_whole self.now) }
+        ensures delta { result ≡ true → (base ≡ 0) ⊎ IsOk (node_delta self.now base) }
+    {
+        let all = self.state.facts().bytes_of_all();
+        if self.damaged || all <= room {
+            return false;
+        }
+        if base.number() == 0 {
+            return true;
+        }
+        if base < self.state.horizon() {
+            return false;
+        }
+        match self.state.facts().bytes_above(alloc, base) {
+            Ok(bytes) => bytes > room,
+            Err(_no_memory) => true,
+        }
+    }
+
+    /// Whether the answer to a query at a time has more bytes in a message than so many, at most counted. Where it would be refused it
+    /// says no. Cost: O(1) where all that is held has no more bytes; else that of the answer without its copies.
+    pub fn is_answer_above(&self, alloc: Global, time: Time, query: &Query, room: u64) -> bool {
+        let facts = self.state.facts();
+        if self.damaged || facts.bytes_of_all() <= room {
+            return false;
+        }
+        if time < self.state.horizon() || self.state.readable() < time {
+            return false;
+        }
+        match query {
+            Query::Range { table, low, high } => {
+                facts.bytes_between(*table, *low, *high, time) > room
+            }
+            Query::ByTag { table, tag } => match facts.bytes_tagged(alloc, *table, *tag, time) {
+                Ok(bytes) => bytes > room,
+                Err(_no_memory) => true,
+            },
+            Query::Get { .. } | Query::Count { .. } => false,
+        }
+    }
+
+    /// The same at its resolved time.
+    pub fn is_latest_above(&self, alloc: Global, query: &Query, room: u64) -> bool {
+        self.is_answer_above(alloc, self.state.readable(), query, room)
     }
 
     /// Its range of readable times.
