@@ -90,7 +90,7 @@ pub struct ReaderSeat<J: NodeName> {
     reader: Option<NodeReader>,
     prefix: Prefix,
     alloc: Global,
-    /// How many bytes an answer may have in a message.
+    /// How many bytes an answer may take.
     room: u64,
     of: PhantomData<J>,
 }
@@ -146,7 +146,7 @@ impl<J: NodeName> ReaderSeat<J> {
         }
     }
 
-    /// From now on an answer, a delta or a full snapshot that would have more bytes in a message than so many, at most counted, is refused
+    /// From now on an answer, a delta or a full snapshot that would take more bytes than so many, at most counted, is refused
     /// `Memory` before anything of it is made, and after the other refusals. A page always has room. A new seat has no such limit.
     pub fn keep_within(&mut self, room: u64)
         ensures { self.new ≡ self.old }

@@ -598,7 +598,7 @@ impl Body {
         self.state.facts().tables(alloc)
     }
 
-    /// Whether its full snapshot, or what it holds since a time above 0, has more bytes in a message than so many, at most counted.
+    /// Whether its full snapshot, or what it holds since a time above 0, takes more bytes than so many, at most counted.
     /// Where it would be refused for another reason it says no. Cost: O(1) for the full snapshot, and where all that is held has no
     /// more bytes; else O((1 + k) · log n), k versions with a row or an end above the time, n facts.
     pub fn is_cut_above(&self, alloc: Global, base: Time, room: u64) -> bool
@@ -621,7 +621,7 @@ impl Body {
         }
     }
 
-    /// Whether the answer to a query at a time has more bytes in a message than so many, at most counted. Where it would be refused it
+    /// Whether the answer to a query at a time takes more bytes than so many, at most counted. Where it would be refused it
     /// says no. Cost: O(1) where all that is held has no more bytes; else that of the answer without its copies.
     pub fn is_answer_above(&self, alloc: Global, time: Time, query: &Query, room: u64) -> bool {
         let facts = self.state.facts();
