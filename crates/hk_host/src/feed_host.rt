@@ -117,6 +117,14 @@ impl<'a, J: NodeName, N: Wait + Drop, R: Threads + Wait + Sync> NodeSide for Fee
         self.inner.cut(base)
     }
 
+    fn keep_within(&mut self, room: u64) {
+        self.inner.keep_within(room);
+    }
+
+    fn is_cut_above(&mut self, base: Time) -> bool {
+        self.inner.is_cut_above(base)
+    }
+
     fn hold(&mut self, time: Time) -> Result<Hold, (Option<Hold>, Refusal)> {
         self.inner.reads.hold(time)
     }

@@ -201,6 +201,14 @@ impl<J: NodeName> NodeSide for SeatHost<J> {
         }
     }
 
+    fn keep_within(&mut self, room: u64) {
+        self.seat.keep_within(room);
+    }
+
+    fn is_cut_above(&mut self, base: Time) -> bool {
+        self.seat.is_cut_above(base)
+    }
+
     fn hold(&mut self, _time: Time) -> Result<Hold, (Option<Hold>, Refusal)> {
         let _known = self.seat.seen();
         Err((None, Refusal::Form(FormFault::BadKind)))

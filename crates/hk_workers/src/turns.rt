@@ -7,6 +7,7 @@ use crate::writing::MOST_HELD;
 use hk_doors::Passes;
 use hk_link::{LinkState, NodeSide, PartsHost};
 use hk_session::{Ended, Host, Session, Step};
+use hk_wire::{LaterReply, LaterRequest, Reply, Request};
 use std::io::ErrorKind;
 use std::mem;
 
@@ -15,6 +16,9 @@ const MOST_READS: u32 = 16;
 
 /// A worker ends one connection in a round that has more pins than these, since it asks for the release of each.
 const FEW_PINS: usize = 16;
+
+/// How many pins of such a connection it asks for in a round at most, so that others have their turn between.
+const SOME_PINS: usize = 64;
 
 /// What a worker knows as a connection has its turn.
 #[derive(Clone, Copy)]
@@ -48,6 +52,24 @@ pub(crate) enum Turn {
     Moves,
     /// It is over.
     Over,
+}
+
+/// Asks for the release of some of a connection's pins, the last ones first, as the connection itself could. Returns false where one isn't
+/// released.
+fn release_some<H: NodeSide + Drop>(both: &mut PartsHost<'_, H>) -> bool
+    requires { H.ready both.old.inner }
+    ensures { H.ready both.new.inner }
+{
+    for _ in 0..SOME_PINS {
+        let Some(number) = both.last_pin() else {
+            return true;
+        };
+        let request = Request::Later(LaterRequest::Release { number });
+        let Reply::Later(LaterReply::Done { .. }) = both.answer(request) else {
+            return false;
+        };
+    }
+    true
 }
 
 impl<'d, const LATEST: u8> Link<'d, LATEST> {
@@ -345,15 +367,36 @@ impl<'d, const LATEST: u8> Link<'d, LATEST> {
                 return (self.unless_cut(turn), host);
             }
         }
+        self.end_session(moment, both, left)
+    }
+
+    /// What is done with the pins of a session that has ended: of many some in each round, and then the others.
+    fn end_session<H: NodeSide + Drop>(
+        &mut self,
+        moment: Moment,
+        both: PartsHost<'d, H>,
+        left: &mut Vec<LinkState<'d>>,
+    ) -> (Turn, H)
+        requires { H.ready both.inner }
+    {
         let (host, kept) = both.into_parts();
-        let has_many = kept.hold_count() > FEW_PINS;
-        if has_many && !moment.lets_go {
+        if kept.hold_count() <= FEW_PINS {
+            let (host, state) = PartsHost::new(host, kept).end();
+            self.let_go(state, left);
+            return (Turn::Again, host);
+        }
+        if !moment.lets_go {
             self.kept = Some(kept);
             return (Turn::Again, host);
         }
-        let (host, state) = PartsHost::new(host, kept).end();
+        let mut both = PartsHost::new(host, kept);
+        if release_some(&mut both) {
+            let (host, kept) = both.into_parts();
+            self.kept = Some(kept);
+            return (Turn::Freed, host);
+        }
+        let (host, state) = both.end();
         self.let_go(state, left);
-        let turn = if has_many { Turn::Freed } else { Turn::Again };
-        (turn, host)
+        (Turn::Freed, host)
     }
 }
