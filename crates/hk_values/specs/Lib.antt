@@ -7,3 +7,4 @@ pub mod FragmentSteps
 pub mod Parts
 pub mod Told
 pub mod Cutting
+pub mod Pieces
