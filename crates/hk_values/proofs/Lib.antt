@@ -9,6 +9,7 @@ pub mod StreamRead
 pub mod ReadingLoops
 pub mod StreamsRead
 pub mod FactsRead
+pub mod AddedPieces
 pub mod WrittenFragments
 pub mod OneWireFragment
 pub mod FragmentFits

@@ -8,7 +8,8 @@ use Rattle.std.proofs.lemmas.List.Concat.{flat_map-cons}
 use Rattle.hk_model.specs.Replica.Streams.{StreamContent, stream_at as content_at, unknown}
 use Rattle.hk_frames.specs.Fields.{number}
 use Rattle.hk_frames.proofs.ReadingSteps.{both as both_true}
-use Rattle.hk_values.specs.Fragments.{WireFragment, wire_stream_of, stream_text, fact_text, fragment_text, stream_is_counted, streams_are_counted}
+use Rattle.hk_values.specs.Fragments.{WireFragment, wire_stream_of, stream_text, stream_is_counted, streams_are_counted}
+use Rattle.hk_values.specs.Pieces.{fragment_front}
 
 -- each stream of streams that can be counted can be counted
 counted_each : (got : List StreamContent) (i : ℕ) → i < length got → streams_are_counted (map wire_stream_of got) ≡ true → stream_is_counted (wire_stream_of (get_or got i unknown)) ≡ true
@@ -44,10 +45,10 @@ map_length : {A B : Type 0} (f : A → B) (xs : List A) → length (map f xs) �
 map_length f [] = refl
 map_length f (x ∷ xs) = ap suc (map_length f xs)
 
--- the parts of a fragment, one after the other
+-- the parts of a fragment before its facts, one after the other
 pub put_parts : (f : WireFragment) (got : List StreamContent) (n : ℕ) (x0 x1 x2 x3 x4 x5 x6 : List ℕ) → f.streams ≡ map wire_stream_of got → n ≡ length got → x1 ≡ x0 ++ number w64 f.log → x2 ≡ x1 ++ number w16 n → x3 ≡ x2 ++ number w64 f.base → x4 ≡ x3 ++ number w64 f.horizon
-    → x5 ≡ x4 ++ flat_map stream_text f.streams → x6 ≡ x5 ++ (number w32 (length f.facts) ++ flat_map fact_text f.facts) → x6 ≡ x0 ++ fragment_text f
-unfolding fragment_text
+    → x5 ≡ x4 ++ flat_map stream_text f.streams → x6 ≡ x5 ++ number w32 (length f.facts) → x6 ≡ x0 ++ fragment_front f
+unfolding fragment_front
 put_parts f got n x0 x1 x2 x3 x4 x5 x6 streams is e1 e2 e3 e4 e5 e6 =
     let count : n ≡ length f.streams = is ∙ sym (map_length wire_stream_of got) ∙ sym (ap length streams) in
     rw (e6, e5, e4, e3, e2, e1, count) (simp append_assoc)

@@ -8,3 +8,4 @@ pub mod Parts
 pub mod Told
 pub mod Metrics
 pub mod Cutting
+pub mod Pieces

@@ -1,10 +1,11 @@
 //! Answers as bytes.
 
-ghost use Rattle.std.specs.Prelude.{◌≡◌, ◌≤◌, ◌<◌, ◌*◌, ◌^◌, ◌+◌, ◌++◌, None, true, All, length, take, OnOk, OnErr};
+ghost use Rattle.std.specs.Prelude.{◌≡◌, ◌≤◌, ◌<◌, ◌*◌, ◌^◌, ◌+◌, ◌++◌, None, true, All, length, take, OnOk, OnErr, IfOk};
 ghost use Rattle.std.specs.List.{flat_map};
 ghost use Rattle.hk_frames.specs.Fields.{GivesValue, GivesOrRunsOut};
 ghost use Rattle.hk_model.specs.Replica.Answers.{answer_seen};
 ghost use Rattle.hk_values.specs.Answers as spec;
+ghost use Rattle.hk_values.specs.Pieces.{AddsFrom, answer_front, rows_of};
 
 use crate::field_len::{key_len, number_len, tag_len};
 use hk_frames::{Cursor, ReadError, put_body, put_u32, put_u64};
@@ -227,6 +228,32 @@ fn put_keyed(out: &mut Vec<u8>, key: Key, row: &Row) -> Result<(), AllocError>
     put_row(out, row)
 }
 
+/// Adds rows from the one of this number on: all that are left, or as many as have more than so many bytes. Returns the
+/// number of the next row, which is how many rows there are where none is left.
+#[tactic(auto, using(std::proofs::Common::append_assoc, hk_frames::proofs::Prefix::kept_all, hk_frames::proofs::Prefix::kept_before, hk_frames::proofs::Prefix::kept_both))]
+fn put_rows_from(
+    out: &mut Vec<u8>,
+    rows: &[(Key, Row)],
+    from: usize,
+    most: usize,
+) -> Result<usize, AllocError>
+    requires { from ≤ length rows.now }
+    ensures ok { IfOk result (λ to. AddsFrom spec.keyed_text rows.now from most to out.old.items out.new.items) }
+    ensures kept { OnErr result (take (length out.old.items) out.new.items ≡ out.old.items) }
+{
+    let start = out.len();
+    let mut to = from;
+    while to < rows.len() {
+        if out.len() - start > most {
+            return Ok(to);
+        }
+        let row = &rows[to];
+        put_keyed(out, row.0, &row.1)?;
+        to += 1;
+    }
+    Ok(to)
+}
+
 /// Adds the rows behind their count.
 #[tactic(auto, using(std::proofs::Common::append_assoc, hk_frames::proofs::Prefix::kept_all, hk_frames::proofs::Prefix::kept_before, hk_frames::proofs::Prefix::kept_both))]
 pub(crate) fn put_rows(out: &mut Vec<u8>, rows: &[(Key, Row)]) -> Result<(), AllocError>
@@ -235,17 +262,27 @@ pub(crate) fn put_rows(out: &mut Vec<u8>, rows: &[(Key, Row)]) -> Result<(), All
     ensures kept { OnErr result (take (length out.old.items) out.new.items ≡ out.old.items) }
 {
     put_u32(out, rows.len() as u32)?;
-    for (key, row) in rows {
-        put_keyed(out, *key, row)?;
-    }
+    let _next = put_rows_from(out, rows, 0, usize::MAX)?;
+    let _bound = out.len();
     Ok(())
 }
 
-/// Adds an answer's bytes.
-#[tactic(auto, using(std::proofs::Common::append_assoc, hk_frames::proofs::Prefix::kept_all, hk_frames::proofs::Prefix::kept_before, hk_frames::proofs::Prefix::kept_both), unfolding(crate::specs::Answers::answer_text))]
-pub fn put_answer(out: &mut Vec<u8>, answer: &Answer) -> Result<(), AllocError>
+/// How many rows an answer has: 0 where it is none of rows.
+pub fn row_count(answer: &Answer) -> usize
+    ensures { result ≡ length (rows_of (answer_seen answer.now)) }
+{
+    match answer {
+        Answer::Rows(rows) => rows.len(),
+        Answer::One(_) | Answer::Number(_) => 0,
+    }
+}
+
+/// Adds what an answer's bytes have before its rows: the kind, and how many rows there are; all of an answer that is none of
+/// rows.
+#[tactic(auto, using(std::proofs::Common::append_assoc, hk_frames::proofs::Prefix::kept_all, hk_frames::proofs::Prefix::kept_before, hk_frames::proofs::Prefix::kept_both), unfolding(crate::specs::Answers::answer_text, crate::specs::Pieces::answer_front))]
+pub fn put_answer_front(out: &mut Vec<u8>, answer: &Answer) -> Result<(), AllocError>
     requires { spec.answer_keeps_rules (answer_seen answer.now) ≡ true }
-    ensures ok { OnOk result (out.new.items ≡ out.old.items ++ spec.answer_text (answer_seen answer.now)) }
+    ensures ok { OnOk result (out.new.items ≡ out.old.items ++ answer_front (answer_seen answer.now)) }
     ensures kept { OnErr result (take (length out.old.items) out.new.items ≡ out.old.items) }
 {
     match answer {
@@ -261,11 +298,43 @@ pub fn put_answer(out: &mut Vec<u8>, answer: &Answer) -> Result<(), AllocError>
         }
         Answer::Rows(rows) => {
             out.push(ROWS)?;
-            put_rows(out, rows)
+            put_u32(out, rows.len() as u32)
         }
         Answer::Number(n) => {
             out.push(NUMBER)?;
             put_u64(out, *n)
         }
     }
+}
+
+/// Adds the rows of an answer from the one of this number on: all that are left, or as many as have more than so many bytes.
+/// Returns the number of the next row, which is how many rows there are where none is left. Cost: O(n), n bytes added.
+pub fn put_answer_rows(
+    out: &mut Vec<u8>,
+    answer: &Answer,
+    from: usize,
+    most: usize,
+) -> Result<usize, AllocError>
+    requires { from ≤ length (rows_of (answer_seen answer.now)) }
+    ensures ok { IfOk result (λ to. AddsFrom spec.keyed_text (rows_of (answer_seen answer.now)) from most to
+        out.old.items out.new.items) }
+    ensures kept { OnErr result (take (length out.old.items) out.new.items ≡ out.old.items) }
+{
+    match answer {
+        Answer::Rows(rows) => put_rows_from(out, rows, from, most),
+        Answer::One(_) | Answer::Number(_) => Ok(from),
+    }
+}
+
+/// Adds an answer's bytes.
+#[tactic(auto, using(hk_frames::proofs::Prefix::kept_before, hk_frames::proofs::Prefix::kept_both))]
+pub fn put_answer(out: &mut Vec<u8>, answer: &Answer) -> Result<(), AllocError>
+    requires { spec.answer_keeps_rules (answer_seen answer.now) ≡ true }
+    ensures ok { OnOk result (out.new.items ≡ out.old.items ++ spec.answer_text (answer_seen answer.now)) }
+    ensures kept { OnErr result (take (length out.old.items) out.new.items ≡ out.old.items) }
+{
+    put_answer_front(out, answer)?;
+    let _next = put_answer_rows(out, answer, 0, usize::MAX)?;
+    let _bound = out.len();
+    Ok(())
 }

@@ -1,10 +1,11 @@
 //! Fragments, written at the end of bytes.
 
-ghost use Rattle.std.specs.Prelude.{◌≡◌, ◌≤◌, ◌*◌, ◌++◌, ◌^◌, ◌<◌, None, true, All, length, map, take, OnOk, OnErr};
+ghost use Rattle.std.specs.Prelude.{◌≡◌, ◌≤◌, ◌*◌, ◌++◌, ◌^◌, ◌<◌, None, true, All, length, map, take, OnOk, OnErr, IfOk};
 ghost use Rattle.std.specs.List.{flat_map};
 ghost use Rattle.hk_types.specs.declared.version_key.VersionKey.{VersionKey};
 ghost use Rattle.hk_values.specs.Answers.{PresentFits};
 ghost use Rattle.hk_values.specs.Fragments as spec;
+ghost use Rattle.hk_values.specs.Pieces.{AddsFrom, fragment_front};
 
 use crate::answer::{put_row, row_len};
 use crate::field_len::{key_len, number_len, table_len, time_len};
@@ -297,6 +298,42 @@ fn put_fact(out: &mut Vec<u8>, version: VersionKey, known: &Version) -> Result<(
     put_known(out, known)
 }
 
+/// Adds facts from the one of this number on: all that are left, or as many as have more than so many bytes. Returns the
+/// number of the next fact, which is how many facts there are where none is left. Cost: O(n), n bytes added.
+#[tactic(auto, using(std::proofs::Common::append_assoc, hk_frames::proofs::Prefix::kept_all, hk_frames::proofs::Prefix::kept_before, hk_frames::proofs::Prefix::kept_both))]
+pub fn put_facts_from(
+    out: &mut Vec<u8>,
+    facts: &[(VersionKey, Version)],
+    from: usize,
+    most: usize,
+) -> Result<usize, AllocError>
+    requires { from ≤ length facts.now }
+    ensures ok { IfOk result (λ to. AddsFrom spec.fact_text facts.now from most to out.old.items out.new.items) }
+    ensures kept { OnErr result (take (length out.old.items) out.new.items ≡ out.old.items) }
+{
+    let start = out.len();
+    let mut to = from;
+    while to < facts.len() {
+        if out.len() - start > most {
+            return Ok(to);
+        }
+        let fact = &facts[to];
+        put_fact(out, fact.0, &fact.1)?;
+        to += 1;
+    }
+    Ok(to)
+}
+
+/// Adds all facts, without their count.
+fn put_all_facts(out: &mut Vec<u8>, facts: &[(VersionKey, Version)]) -> Result<(), AllocError>
+    ensures ok { OnOk result (out.new.items ≡ out.old.items ++ flat_map spec.fact_text facts.now) }
+    ensures kept { OnErr result (take (length out.old.items) out.new.items ≡ out.old.items) }
+{
+    let _next = put_facts_from(out, facts, 0, usize::MAX)?;
+    let _bound = out.len();
+    Ok(())
+}
+
 /// Adds the facts behind their count.
 #[tactic(auto, using(std::proofs::Common::append_assoc, hk_frames::proofs::Prefix::kept_all, hk_frames::proofs::Prefix::kept_before, hk_frames::proofs::Prefix::kept_both))]
 pub fn put_facts(out: &mut Vec<u8>, facts: &[(VersionKey, Version)]) -> Result<(), AllocError>
@@ -305,18 +342,14 @@ pub fn put_facts(out: &mut Vec<u8>, facts: &[(VersionKey, Version)]) -> Result<(
     ensures kept { OnErr result (take (length out.old.items) out.new.items ≡ out.old.items) }
 {
     put_u32(out, facts.len() as u32)?;
-    for (version, known) in facts {
-        put_fact(out, *version, known)?;
-    }
-    Ok(())
+    put_all_facts(out, facts)
 }
 
-/// Adds a fragment's bytes.
-#[tactic(auto, using(std::proofs::Common::append_assoc, hk_frames::proofs::Prefix::kept_all, hk_frames::proofs::Prefix::kept_before, hk_frames::proofs::Prefix::kept_both), unfolding(crate::specs::Fragments::fragment_text))]
-pub fn put_fragment(out: &mut Vec<u8>, fragment: &Fragment) -> Result<(), AllocError>
+/// Adds what a fragment's bytes have before its facts: the head, the states of the streams, and how many facts there are.
+#[tactic(auto, using(std::proofs::Common::append_assoc, hk_frames::proofs::Prefix::kept_all, hk_frames::proofs::Prefix::kept_before, hk_frames::proofs::Prefix::kept_both), unfolding(crate::specs::Pieces::fragment_front))]
+pub fn put_fragment_front(out: &mut Vec<u8>, fragment: &Fragment) -> Result<(), AllocError>
     requires { spec.is_counted (spec.wire_fragment_of fragment.now) ≡ true }
-    ensures ok { OnOk result (out.new.items ≡ out.old.items
-        ++ spec.fragment_text (spec.wire_fragment_of fragment.now)) }
+    ensures ok { OnOk result (out.new.items ≡ out.old.items ++ fragment_front (spec.wire_fragment_of fragment.now)) }
     ensures kept { OnErr result (take (length out.old.items) out.new.items ≡ out.old.items) }
 {
     let config = fragment.config();
@@ -325,5 +358,17 @@ pub fn put_fragment(out: &mut Vec<u8>, fragment: &Fragment) -> Result<(), AllocE
     put_u64(out, fragment.base().number())?;
     put_u64(out, fragment.horizon().number())?;
     put_streams(out, fragment.got())?;
-    put_facts(out, fragment.facts())
+    put_u32(out, fragment.facts().len() as u32)
+}
+
+/// Adds a fragment's bytes.
+#[tactic(auto, using(hk_frames::proofs::Prefix::kept_before, hk_frames::proofs::Prefix::kept_both))]
+pub fn put_fragment(out: &mut Vec<u8>, fragment: &Fragment) -> Result<(), AllocError>
+    requires { spec.is_counted (spec.wire_fragment_of fragment.now) ≡ true }
+    ensures ok { OnOk result (out.new.items ≡ out.old.items
+        ++ spec.fragment_text (spec.wire_fragment_of fragment.now)) }
+    ensures kept { OnErr result (take (length out.old.items) out.new.items ≡ out.old.items) }
+{
+    put_fragment_front(out, fragment)?;
+    put_all_facts(out, fragment.facts())
 }

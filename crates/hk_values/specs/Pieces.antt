@@ -1,0 +1,37 @@
+-- Encodings in pieces: what comes before the facts of a fragment or the rows of an answer, and these from one of them on.
+use Rattle.std.specs.Prelude.{◌≡◌, ℕ, ◌<◌, ◌≤◌, List, [], ◌∷◌, ◌++◌, length, drop}
+use Rattle.std.specs.Int.{w16, w32, w64}
+use Rattle.std.specs.List.{flat_map}
+use Rattle.hk_types.specs.Values.{RowValue}
+use Rattle.hk_model.specs.Replica.Answers.{AnswerValue, One, Rows, Number}
+use Rattle.hk_frames.specs.Fields.{number}
+use Rattle.hk_values.specs.Answers.{answer_text}
+use Rattle.hk_values.specs.Fragments.{WireFragment, stream_text}
+
+-- Of the elements from the first of these numbers on, those before the second one were added: all that are left, or more than so
+-- many bytes.
+pub record AddsFrom {X : Type 0} (text : X → List ℕ) (xs : List X) (from most to : ℕ) (before after : List ℕ) : Type 0 where
+  pub more : List ℕ
+  pub added : after ≡ before ++ more
+  pub rest : more ++ flat_map text (drop to xs) ≡ flat_map text (drop from xs)
+  pub first : from ≤ to
+  pub within : to ≤ length xs
+  pub many : to < length xs → most < length more
+
+-- what the encoding of a fragment has before its facts
+unfoldable pub fragment_front : WireFragment → List ℕ
+fragment_front f =
+    number w64 f.log ++ (number w16 (length f.streams) ++ (number w64 f.base ++ (number w64 f.horizon
+    ++ (flat_map stream_text f.streams ++ number w32 (length f.facts)))))
+
+-- the rows of an answer
+abbrev pub rows_of : AnswerValue → List (ℕ × RowValue)
+rows_of (One row) = []
+rows_of (Rows rows) = rows
+rows_of (Number n) = []
+
+-- what its encoding has before them
+unfoldable pub answer_front : AnswerValue → List ℕ
+answer_front (One row) = answer_text (One row)
+answer_front (Rows rows) = 2 ∷ number w32 (length rows)
+answer_front (Number n) = answer_text (Number n)
