@@ -18,6 +18,7 @@ use std::thread;
 use std::thread::Threads;
 
 mod rows;
+mod sizes;
 mod threads;
 
 fn config() -> Result<Config, Fail> {

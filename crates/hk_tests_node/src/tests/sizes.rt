@@ -1,0 +1,167 @@
+//! What a node says of how much it holds, beside a count of its full snapshot; its tables; and answers that have no room.
+
+ghost use Rattle.std.specs.Prelude.{◌≡◌};
+
+use super::*;
+use hk_log::Entry;
+use hk_tests_values::{row, stream, version};
+use hk_types::VersionKey;
+
+/// Rows, ends and bytes of the facts of a full snapshot.
+fn counted(whole: &Fragment) -> (u64, u64, u64) {
+    let mut sizes = (0u64, 0u64, 0u64);
+    for (_version, known) in whole.facts() {
+        if let Some(row) = known.row() {
+            sizes.0 = sizes.0.saturating_add(1);
+            sizes.2 = sizes.2.saturating_add(row.body().len() as u64);
+        }
+        if known.died().is_some() {
+            sizes.1 = sizes.1.saturating_add(1);
+        }
+    }
+    sizes
+}
+
+/// Whether the node says of itself what a count of its snapshot says.
+fn agrees<J: NodeName>(seat: &mut ReaderSeat<J>) -> Result<bool, Refusal> {
+    let sizes = seat.sizes()?;
+    let whole = seat.whole()?;
+    Ok((sizes.rows, sizes.ends, sizes.bytes) == counted(&whole))
+}
+
+/// An entry that puts so many rows of a table at its time, with bodies of 0 to 6 bytes, and ends those that the entry before it put of
+/// the keys up to a bound.
+fn wide(alloc: Global, number: u64, table: u16, count: u64, ended: u64) -> Result<Item, Fail> {
+    let mut ends = Vec::new(alloc);
+    let mut rows = Vec::new(alloc);
+    for key in 1..=count {
+        if key <= ended {
+            let before = version(key, number.saturating_sub(1))?;
+            let table = Table::new(table);
+            ends.push(VersionKey { table, ..before })?;
+        }
+        let body = [7u8; 6];
+        let length = (key % 7) as usize;
+        let row = row(alloc, &body[..length.min(6)])?;
+        rows.push((Table::new(table), Key::new(key), row))?;
+    }
+    let entry = Entry::new(7, stream(1)?, number, time(number)?, ends, rows)?;
+    Ok(Item::Commit(entry))
+}
+
+/// A join of one such entry and of the mark of it.
+fn join_wide<J: NodeName, R: Wait, S: Wait + Drop>(
+    rt: &R,
+    alloc: Global,
+    node: &Node<J, S>,
+    entry: Item,
+    number: u64,
+) -> Result<(), Fail> {
+    let mut items = Vec::new(alloc);
+    items.push(entry)?;
+    items.push(mark(1, number, number)?)?;
+    node.join(rt, fragment_of(alloc, config()?, &items)?)?;
+    Ok(())
+}
+
+#[test]
+fn a_node_counts_what_it_holds(rt: HostRuntime) -> Result<(), Fail> {
+    let alloc = rt.alloc();
+    counts::<Brand, _>(&rt, alloc, NewList::new(config()?))
+}
+
+/// Joins, a repeat, and prunes that drop few versions and many.
+fn counts<J: NodeName, R: Wait + Abort>(rt: &R, alloc: Global, list: NewList) -> Result<(), Fail>
+    requires { list ≡ (J.book, J.kind) }
+{
+    let (node, mut seats) = start::<J, &R>(rt, alloc, list, 1)?;
+    let seat = seats.first_mut().ok_or("seat")?;
+    assert!(rt; agrees(seat)?);
+    for number in 1..=6u64 {
+        join_wide(rt, alloc, &node, wide(alloc, number, 3, 50, 50)?, number)?;
+        assert!(rt; agrees(seat)?);
+    }
+    join_wide(rt, alloc, &node, wide(alloc, 6, 3, 50, 50)?, 6)?;
+    assert!(rt; agrees(seat)?);
+    assert_eq!(rt; seat.sizes()?.rows, 300u64);
+    join_wide(rt, alloc, &node, wide(alloc, 7, 3, 50, 2)?, 7)?;
+    node.prune(rt, time(3)?)?;
+    assert!(rt; agrees(seat)?);
+    node.prune(rt, time(6)?)?;
+    assert!(rt; agrees(seat)?);
+    node.prune(rt, time(7)?)?;
+    assert!(rt; agrees(seat)?);
+    assert_eq!(rt; seat.sizes()?.rows, 98u64);
+    Ok(())
+}
+
+#[test]
+fn a_node_lists_its_tables(rt: HostRuntime) -> Result<(), Fail> {
+    let alloc = rt.alloc();
+    tables::<Brand, _>(&rt, alloc, NewList::new(config()?))
+}
+
+/// Tables come in any order, the first and the last among them, and go once nothing of them is held.
+fn tables<J: NodeName, R: Wait + Abort>(rt: &R, alloc: Global, list: NewList) -> Result<(), Fail>
+    requires { list ≡ (J.book, J.kind) }
+{
+    let (node, mut seats) = start::<J, &R>(rt, alloc, list, 1)?;
+    let seat = seats.first_mut().ok_or("seat")?;
+    assert!(rt; seat.tables()?.is_empty());
+    let mut number = 0u64;
+    for table in [9u16, 0, 65_535, 300, 9] {
+        number = number.saturating_add(1);
+        join_wide(rt, alloc, &node, wide(alloc, number, table, 3, 0)?, number)?;
+    }
+    let numbers: Vec<u16> = seat
+        .tables()?
+        .iter()
+        .map(|table| table.number())
+        .collect(alloc)?;
+    assert_eq!(rt; numbers.as_slice(), [0u16, 9, 300, 65_535].as_slice());
+    Ok(())
+}
+
+#[test]
+fn an_answer_without_room_is_refused(rt: HostRuntime) -> Result<(), Fail> {
+    let alloc = rt.alloc();
+    rooms::<Brand, _>(&rt, alloc, NewList::new(config()?))
+}
+
+/// Whether this is refused for want of memory.
+fn lacks<X: Drop>(answer: Result<X, Refusal>) -> bool {
+    match answer {
+        Ok(it) => {
+            drop(it);
+            false
+        }
+        Err(why) => why == Refusal::Memory,
+    }
+}
+
+fn rooms<J: NodeName, R: Wait + Abort>(rt: &R, alloc: Global, list: NewList) -> Result<(), Fail>
+    requires { list ≡ (J.book, J.kind) }
+{
+    let (node, mut seats) = start::<J, &R>(rt, alloc, list, 1)?;
+    let seat = seats.first_mut().ok_or("seat")?;
+    join_wide(rt, alloc, &node, wide(alloc, 1, 3, 400, 0)?, 1)?;
+    join_wide(rt, alloc, &node, wide(alloc, 2, 3, 4, 4)?, 2)?;
+    let (table, low, high) = (Table::new(3), Key::new(1), Key::new(400));
+    let many = Query::Range { table, low, high };
+    let few = Query::Range {
+        table,
+        low,
+        high: Key::new(2),
+    };
+    assert!(rt; seat.whole().is_ok() && seat.ask(time(2)?, &many).is_ok());
+    seat.keep_within(4_000);
+    assert!(rt; lacks(seat.whole()) && seat.is_cut_above(Time::zero()));
+    assert!(rt; lacks(seat.ask(time(2)?, &many)) && lacks(seat.latest(&many)));
+    assert!(rt; seat.ask(time(2)?, &few).is_ok() && seat.ask(time(2)?, &get(1)).is_ok());
+    assert!(rt; seat.delta_since(time(1)?).is_ok() && !seat.is_cut_above(time(1)?));
+    assert!(rt; seat.page(time(2)?, table, low, high, 1_000).is_ok());
+    seat.keep_within(100);
+    assert!(rt; lacks(seat.delta_since(time(1)?)) && seat.is_cut_above(time(1)?));
+    assert!(rt; seat.streams().is_ok() && seat.front().is_ok());
+    Ok(())
+}
