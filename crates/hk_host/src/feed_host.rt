@@ -121,6 +121,10 @@ impl<'a, J: NodeName, N: Wait + Drop, R: Threads + Wait + Sync> NodeSide for Fee
         self.inner.keep_within(room);
     }
 
+    fn is_latest_above(&mut self, query: &Query) -> bool {
+        self.inner.is_latest_above(query)
+    }
+
     fn is_cut_above(&mut self, base: Time) -> bool {
         self.inner.is_cut_above(base)
     }

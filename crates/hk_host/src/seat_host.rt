@@ -205,6 +205,10 @@ impl<J: NodeName> NodeSide for SeatHost<J> {
         self.seat.keep_within(room);
     }
 
+    fn is_latest_above(&mut self, query: &Query) -> bool {
+        self.seat.is_latest_above(query)
+    }
+
     fn is_cut_above(&mut self, base: Time) -> bool {
         self.seat.is_cut_above(base)
     }

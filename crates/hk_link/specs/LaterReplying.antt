@@ -75,6 +75,15 @@ latest_reply c query = latest_told (node_latest c query)
 abbrev pub page_reply : NodeContent → ℕ → ℕ → ℕ → ℕ → ℕ → ReplyValue
 page_reply c t table low high most = page_told (node_page c t table low high most)
 
+-- what is told of a query at the readable mark: the answer, or that memory ran out, or that it would find no room among what all links of
+-- the node keep
+abbrev pub TellsLatest : ℕ → NodeContent → Query → ReplyValue → Type 0
+TellsLatest budget c query reply = IsOrMemory (latest_reply c query) reply ⊎ ((c.damaged ≡ false) × (reply ≡ Refused (refusals.LinkFull budget)))
+
+-- the host's seat looked at its node, nothing else of the link changed, and so it is told of the query
+abbrev pub LooksLatest : {S : Type 0} → Sided S → LinkValue S → Query → ReplyValue → LinkValue S → Type 0
+LooksLatest side old query reply new = Grows side old.inner new.inner × KeepsOther old new × TellsLatest old.most (content_of side new) query reply
+
 -- the host's seat looked at its node, nothing else of the link changed, and this is told of what the node holds
 abbrev pub Looks : {S : Type 0} → Sided S → LinkValue S → (NodeContent → ReplyValue) → ReplyValue → LinkValue S → Type 0
 Looks side old wanted reply new = Grows side old.inner new.inner × KeepsOther old new × IsOrMemory (wanted (content_of side new)) reply
@@ -245,7 +254,7 @@ next_place (Some hold) place = place + 1
 -- what is replied to a request of version 2, over a host that is as this says, and may reply so to requests of version 1
 abbrev pub IsLaterReply : {S : Type 0} → Sided S → (S → Request → Reply → S → Type 0) → LinkValue S → LaterRequest → ReplyValue → LinkValue S → Type 0
 IsLaterReply side may old asked.Streams reply new = Looks side old streams_reply reply new
-IsLaterReply side may old (asked.AskLatest query) reply new = Looks side old (λ c. latest_reply c query) reply new
+IsLaterReply side may old (asked.AskLatest query) reply new = LooksLatest side old query reply new
 IsLaterReply side may old (asked.Page t table low high most) reply new = Looks side old (λ c. page_reply c t table low high most) reply new
 IsLaterReply side may old (asked.Await t milliseconds) reply new = Looks side old ready_reply reply new
 IsLaterReply side may old (asked.Whole base most) reply new = IsWhole side old base most reply new

@@ -5,7 +5,7 @@ ghost use mathlib.Core.List.{IsPrefix};
 ghost use Rattle.hk_fragment.specs.Heads.{of_facts};
 ghost use Rattle.hk_wire.specs.LaterReplies.{reply_seen};
 ghost use Rattle.hk_oplog.specs.Replay.{is_legal};
-ghost use Rattle.hk_link.specs.LaterReplying.{AreLetGo, AsksHoldInPlace, IsFirstReply, IsFull, IsHeld, IsLaterReply, IsOrMemory, IsReleased, JoinsMade, KeepsButCame, KeepsButGiving, KeepsCameAndHolds, KeepsOther, LetsGo, RefusesCut, TellsCome, TellsMore, TellsWhole, change_seen, content_of, latest_reply, page_reply, ready_reply, streams_reply};
+ghost use Rattle.hk_link.specs.LaterReplying.{AreLetGo, AsksHoldInPlace, IsFirstReply, IsFull, IsHeld, IsLaterReply, IsOrMemory, IsReleased, JoinsMade, KeepsButCame, KeepsButGiving, KeepsCameAndHolds, KeepsOther, LetsGo, RefusesCut, TellsCome, TellsLatest, TellsMore, TellsWhole, change_seen, content_of, latest_reply, page_reply, ready_reply, streams_reply};
 ghost use Rattle.hk_link.specs.LinkStates.{fresh_state, link_of};
 
 use crate::link_state::LinkState;
@@ -152,7 +152,7 @@ impl<'a, H: NodeSide + Drop> PartsHost<'a, H> {
         ensures legal { is_legal (H.side.list self.new.inner) ≡ true }
         ensures seen { IsPrefix (H.side.list self.old.inner) (H.side.list self.new.inner) }
         ensures same { KeepsOther self.old self.new }
-        ensures told { IsOrMemory (latest_reply (content_of H.side self.new) query.now) (reply_seen result) }
+        ensures told { TellsLatest self.old.most (content_of H.side self.new) query.now (reply_seen result) }
         ensures ready { H.ready self.old.inner → H.ready self.new.inner }
     {
         if is_long(query) {
@@ -160,8 +160,25 @@ impl<'a, H: NodeSide + Drop> PartsHost<'a, H> {
         }
         match self.inner.latest(query) {
             Ok((t, answer)) => LaterReply::Latest { t, answer },
+            Err(Refusal::Memory) => self.refuse_latest(query),
             Err(why) => LaterReply::Refused(why),
         }
+    }
+
+    /// The refusal of an answer that was not made for want of memory: where that is for the budget's limit, so many bytes are the most.
+    fn refuse_latest(&mut self, query: &Query) -> LaterReply
+        ensures legal { is_legal (H.side.list self.new.inner) ≡ true }
+        ensures seen { IsPrefix (H.side.list self.old.inner) (H.side.list self.new.inner) }
+        ensures same { KeepsOther self.old self.new }
+        ensures told { TellsLatest self.old.most (content_of H.side self.new) query.now (reply_seen result) }
+        ensures ready { H.ready self.old.inner → H.ready self.new.inner }
+    {
+        if self.inner.is_latest_above(query) {
+            return LaterReply::Refused(Refusal::LinkFull {
+                most: self.kept.most(),
+            });
+        }
+        LaterReply::Refused(Refusal::Memory)
     }
 
     fn page(&mut self, time: Time, table: Table, low: Key, high: Key, most: u32) -> LaterReply

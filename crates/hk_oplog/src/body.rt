@@ -644,8 +644,10 @@ impl Body {
     }
 
     /// The same at its resolved time.
-    pub fn is_latest_above(&self, alloc: Global, query: &Query, room: u64) -> bool {
-        self.is_answer_above(alloc, self.state.readable(), query, room)
+    pub fn is_latest_above(&self, alloc: Global, query: &Query, room: u64) -> bool
+        ensures { result ≡ true → self.now.damaged ≡ false }
+    {
+        !self.damaged && self.is_answer_above(alloc, self.state.readable(), query, room)
     }
 
     /// Its range of readable times.

@@ -126,15 +126,20 @@ impl<'d, const LATEST: u8> Link<'d, LATEST> {
         self.is_cut || is_read || !self.unwritten.is_empty()
     }
 
+    /// How many bytes of its replies aren't written: those that stand, and those of a reply that are still to be appended.
+    fn unwritten_bytes(&self) -> u64 {
+        let standing = self.unwritten.len() as u64;
+        standing.saturating_add(self.session.standing())
+    }
+
     /// Reserves room of the budget for what is between its socket and its session: what came of a frame that isn't complete, what waits
     /// for another worker, and replies that aren't written. A connection for which there is none ends. Fewer bytes than 4,096 aren't counted.
     pub(crate) fn reserve(&mut self) {
-        let (rest, standing) = (self.rest.len() as u64, self.unwritten.len() as u64);
         let held = self
             .watch
             .held()
-            .saturating_add(rest)
-            .saturating_add(standing);
+            .saturating_add(self.rest.len() as u64)
+            .saturating_add(self.unwritten_bytes());
         let bytes = held / COUNTED_BYTES * COUNTED_BYTES;
         if bytes == self.reserved {
             return;
@@ -149,12 +154,13 @@ impl<'d, const LATEST: u8> Link<'d, LATEST> {
             self.cut(Ended::Memory);
             self.unwritten.drop_all();
             self.rest = Vec::new(self.alloc);
+            self.session = Session::new(self.alloc);
         }
     }
 
     /// The same at once where much stands, so that a reply for which there is no room is dropped before another one is made.
     pub(crate) fn reserve_much(&mut self) {
-        if self.unwritten.len() > MOST_HELD {
+        if self.unwritten_bytes() > MOST_HELD as u64 {
             self.reserve();
         }
     }
