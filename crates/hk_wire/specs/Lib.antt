@@ -3,3 +3,4 @@ pub mod LaterRequests
 pub mod Requests
 pub mod LaterReplies
 pub mod Replies
+pub mod Pieces

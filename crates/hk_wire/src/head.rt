@@ -53,15 +53,24 @@ pub(crate) fn read_end(cursor: &Cursor) -> Result<(), FormFault>
     Ok(())
 }
 
-/// Adds the length of a rest, the version and the kind. All of the frame is reserved at once.
+/// Adds the length of a rest, the version and the kind.
 #[tactic(auto, using(std::proofs::Common::append_assoc, hk_frames::proofs::Prefix::kept_all, hk_frames::proofs::Prefix::kept_before, hk_frames::proofs::Prefix::kept_both))]
+pub(crate) fn put_plain_head(out: &mut Vec<u8>, rest: u32, kind: u8) -> Result<(), AllocError>
+    ensures ok { OnOk result (out.new.items ≡ out.old.items ++ (number w32 rest ++ message_text kind [])) }
+    ensures kept { OnErr result (take (length out.old.items) out.new.items ≡ out.old.items) }
+{
+    put_u32(out, rest)?;
+    out.push(version_of(kind))?;
+    out.push(kind)?;
+    Ok(())
+}
+
+/// Adds the length of a rest, the version and the kind. All of the frame is reserved at once.
+#[tactic(auto, using(hk_frames::proofs::Prefix::kept_all))]
 pub(crate) fn put_head(out: &mut Vec<u8>, rest: u32, kind: u8) -> Result<(), AllocError>
     ensures ok { OnOk result (out.new.items ≡ out.old.items ++ (number w32 rest ++ message_text kind [])) }
     ensures kept { OnErr result (take (length out.old.items) out.new.items ≡ out.old.items) }
 {
     out.reserve(4 + rest as usize)?;
-    put_u32(out, rest)?;
-    out.push(version_of(kind))?;
-    out.push(kind)?;
-    Ok(())
+    put_plain_head(out, rest, kind)
 }

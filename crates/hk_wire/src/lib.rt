@@ -16,6 +16,7 @@ mod later_request_encoding;
 mod laws;
 mod reply;
 mod reply_encoding;
+mod reply_pieces;
 mod request;
 mod request_encoding;
 
@@ -27,5 +28,6 @@ pub use laws::{
 };
 pub use reply::{Reply, ReplyFeeder, ReplyFormat};
 pub use reply_encoding::encode_reply;
+pub use reply_pieces::{Place, encode_piece};
 pub use request::{Request, RequestFeeder, RequestFormat};
 pub use request_encoding::{encode_request, kind_of};

@@ -16,7 +16,7 @@ use hk_values::refusal::{is_sent, put_refusal, refusal_len};
 use std::alloc::AllocError;
 
 /// The kind byte.
-fn kind_of(reply: &Reply) -> u8
+pub(crate) fn kind_of(reply: &Reply) -> u8
     ensures { result ≡ replies.reply_kind (replies.reply_seen reply.now) }
 {
     match reply {
@@ -63,7 +63,7 @@ fn body_len(reply: &Reply) -> u64
 
 /// How many bytes the rest of a reply's frame has, or `None` where it has no encoding.
 #[tactic(auto, using(crate::proofs::Lengths::reply_rest_len))]
-fn reply_len(reply: &Reply) -> Option<u32>
+pub(crate) fn reply_len(reply: &Reply) -> Option<u32>
     ensures reply { IfSome result (λ _. replies.IsReply (replies.reply_seen reply.now)) }
     ensures len { replies.IsLength reply.now result }
 {
@@ -79,7 +79,7 @@ fn reply_len(reply: &Reply) -> Option<u32>
 
 /// Adds the body of a reply that keeps its rules.
 #[tactic(auto, using(std::proofs::Common::append_assoc, hk_frames::proofs::Prefix::kept_all, hk_frames::proofs::Prefix::kept_before, hk_frames::proofs::Prefix::kept_both))]
-fn put_body(out: &mut Vec<u8>, reply: &Reply) -> Result<(), AllocError>
+pub(crate) fn put_body(out: &mut Vec<u8>, reply: &Reply) -> Result<(), AllocError>
     requires { replies.keeps_rules (replies.reply_seen reply.now) ≡ true }
     ensures ok { OnOk result (out.new.items ≡ out.old.items ++ replies.reply_body (replies.reply_seen reply.now)) }
     ensures kept { OnErr result (take (length out.old.items) out.new.items ≡ out.old.items) }
