@@ -382,7 +382,8 @@ impl<J: NodeName> ReaderSeat<J> {
     pub fn tables(&mut self) -> Result<Vec<Table>, Refusal>
         ensures legal { is_legal self.new ≡ true }
         ensures seen { IsPrefix self.old self.new }
-        ensures tables { IfOk result (λ tables. AreTables (facts_of_content (replay self.new).content) tables.items) }
+        ensures tables { IfOk result (λ tables.
+            AreTables (facts_of_content (replay self.new).content) tables.items) }
         ensures err { IfErr result (λ why. why ≡ Memory) }
     {
         let reading = self.enter()?;

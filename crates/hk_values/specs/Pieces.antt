@@ -3,9 +3,10 @@ use Rattle.std.specs.Prelude.{◌≡◌, ℕ, ◌<◌, ◌≤◌, List, [], ◌�
 use Rattle.std.specs.Int.{w16, w32, w64}
 use Rattle.std.specs.List.{flat_map}
 use Rattle.hk_types.specs.Values.{RowValue}
-use Rattle.hk_model.specs.Replica.Answers.{AnswerValue, One, Rows, Number}
+use Rattle.hk_model.specs.declared.answer.Answer.{Answer}
+use Rattle.hk_model.specs.Replica.Answers.{AnswerValue, One, Rows, Number, answer_seen}
 use Rattle.hk_frames.specs.Fields.{number}
-use Rattle.hk_values.specs.Answers.{answer_text}
+use Rattle.hk_values.specs.Answers.{answer_text, keyed_text}
 use Rattle.hk_values.specs.Fragments.{WireFragment, stream_text}
 
 -- Of the elements from the first of these numbers on, those before the second one were added: all that are left, or more than so
@@ -35,3 +36,7 @@ unfoldable pub answer_front : AnswerValue → List ℕ
 answer_front (One row) = answer_text (One row)
 answer_front (Rows rows) = 2 ∷ number w32 (length rows)
 answer_front (Number n) = answer_text (Number n)
+
+-- of the rows of an answer those from the first of these numbers on were added, before the second one
+abbrev pub AddsRows : Answer → ℕ → ℕ → ℕ → List ℕ → List ℕ → Type 0
+AddsRows answer = AddsFrom keyed_text (rows_of (answer_seen answer))

@@ -5,7 +5,7 @@ ghost use Rattle.std.specs.List.{flat_map};
 ghost use Rattle.hk_frames.specs.Fields.{GivesValue, GivesOrRunsOut};
 ghost use Rattle.hk_model.specs.Replica.Answers.{answer_seen};
 ghost use Rattle.hk_values.specs.Answers as spec;
-ghost use Rattle.hk_values.specs.Pieces.{AddsFrom, answer_front, rows_of};
+ghost use Rattle.hk_values.specs.Pieces.{AddsFrom, AddsRows, answer_front, rows_of};
 
 use crate::field_len::{key_len, number_len, tag_len};
 use hk_frames::{Cursor, ReadError, put_body, put_u32, put_u64};
@@ -316,7 +316,7 @@ pub fn put_answer_rows(
     most: usize,
 ) -> Result<usize, AllocError>
     requires { from ≤ length (rows_of (answer_seen answer.now)) }
-    ensures ok { IfOk result (λ to. AddsFrom spec.keyed_text (rows_of (answer_seen answer.now)) from most to
+    ensures ok { IfOk result (λ to. AddsRows answer.now from most to
         out.old.items out.new.items) }
     ensures kept { OnErr result (take (length out.old.items) out.new.items ≡ out.old.items) }
 {

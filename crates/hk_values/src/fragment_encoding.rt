@@ -308,7 +308,8 @@ pub fn put_facts_from(
     most: usize,
 ) -> Result<usize, AllocError>
     requires { from ≤ length facts.now }
-    ensures ok { IfOk result (λ to. AddsFrom spec.fact_text facts.now from most to out.old.items out.new.items) }
+    ensures ok { IfOk result (λ to.
+        AddsFrom spec.fact_text facts.now from most to out.old.items out.new.items) }
     ensures kept { OnErr result (take (length out.old.items) out.new.items ≡ out.old.items) }
 {
     let start = out.len();
@@ -349,7 +350,8 @@ pub fn put_facts(out: &mut Vec<u8>, facts: &[(VersionKey, Version)]) -> Result<(
 #[tactic(auto, using(std::proofs::Common::append_assoc, hk_frames::proofs::Prefix::kept_all, hk_frames::proofs::Prefix::kept_before, hk_frames::proofs::Prefix::kept_both), unfolding(crate::specs::Pieces::fragment_front))]
 pub fn put_fragment_front(out: &mut Vec<u8>, fragment: &Fragment) -> Result<(), AllocError>
     requires { spec.is_counted (spec.wire_fragment_of fragment.now) ≡ true }
-    ensures ok { OnOk result (out.new.items ≡ out.old.items ++ fragment_front (spec.wire_fragment_of fragment.now)) }
+    ensures ok { OnOk result (out.new.items
+        ≡ out.old.items ++ fragment_front (spec.wire_fragment_of fragment.now)) }
     ensures kept { OnErr result (take (length out.old.items) out.new.items ≡ out.old.items) }
 {
     let config = fragment.config();

@@ -7,7 +7,9 @@ use Rattle.hk_values.specs.Answers.{keyed_text}
 use Rattle.hk_values.specs.Fragments.{fact_text}
 use Rattle.hk_values.specs.Pieces.{fragment_front, rows_of, answer_front}
 use Rattle.hk_wire.specs.LaterReplies as later
-use Rattle.hk_wire.specs.Replies.{ReplyValue, Done, Front, Fragment, Answer, Refused, Later, reply_body, reply_text, is_encodable}
+use Rattle.hk_wire.specs.declared.later_reply.LaterReply.{LaterReply}
+use Rattle.hk_wire.specs.declared.reply.Reply.{Reply}
+use Rattle.hk_wire.specs.Replies.{ReplyValue, Done, Front, Fragment, Answer, Refused, Later, reply_body, reply_seen, reply_text, is_encodable}
 use Rattle.hk_wire.specs.declared.reply_pieces.Place.{Place}
 
 -- how many facts or rows a reply has, between which its encoding is divided
@@ -53,6 +55,13 @@ pub record AddsItems (r : ReplyValue) (from to : ℕ) (before after : List ℕ) 
   pub within : to ≤ count_of r
   pub many : to < count_of r → 65536 < length more
 
+-- so it is of a reply as it stands in the code, of both versions and of version 2
+abbrev pub AddsItemsOf : Reply → ℕ → ℕ → List ℕ → List ℕ → Type 0
+AddsItemsOf reply = AddsItems (reply_seen reply)
+
+abbrev pub AddsLaterItems : LaterReply → ℕ → ℕ → List ℕ → List ℕ → Type 0
+AddsLaterItems reply = AddsItems (Later (later.reply_seen reply))
+
 -- the same of the whole encoding from its start on
 pub record AddsFront (r : ReplyValue) (to : ℕ) (before after : List ℕ) : Type 0 where
   pub more : List ℕ
@@ -83,3 +92,7 @@ AddsPiece r begun None before after =
     (is_encodable r ≡ true) × ((more : List ℕ) × (after ≡ before ++ more) × (take begun (reply_text r) ++ more ≡ reply_text r) × (0 < length more))
 AddsPiece r begun (Some next) before after =
     IsInside r next × ((more : List ℕ) × (after ≡ before ++ more) × (take begun (reply_text r) ++ more ≡ take next.bytes (reply_text r)) × (65536 < length more))
+
+-- so it is of a reply as it stands in the code
+abbrev pub AddsPieceOf : Reply → ℕ → Option Place → List ℕ → List ℕ → Type 0
+AddsPieceOf reply = AddsPiece (reply_seen reply)

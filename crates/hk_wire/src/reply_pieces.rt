@@ -101,7 +101,7 @@ fn put_front(out: &mut Vec<u8>, reply: &Reply) -> Result<(), AllocError>
 /// Adds rows of a reply of version 2, as `put_some` does.
 fn put_later_some(out: &mut Vec<u8>, reply: &LaterReply, from: usize) -> Result<usize, AllocError>
     requires { from ≤ spec.later_count (later.reply_seen reply.now) }
-    ensures ok { IfOk result (λ to. spec.AddsItems (replies.Later (later.reply_seen reply.now)) from to
+    ensures ok { IfOk result (λ to. spec.AddsLaterItems reply.now from to
         out.old.items out.new.items) }
     ensures kept { OnErr result (take (length out.old.items) out.new.items ≡ out.old.items) }
 {
@@ -115,7 +115,7 @@ fn put_later_some(out: &mut Vec<u8>, reply: &LaterReply, from: usize) -> Result<
 /// number of the next, which is how many there are where none is left.
 fn put_some(out: &mut Vec<u8>, reply: &Reply, from: usize) -> Result<usize, AllocError>
     requires { from ≤ spec.count_of (replies.reply_seen reply.now) }
-    ensures ok { IfOk result (λ to. spec.AddsItems (replies.reply_seen reply.now) from to
+    ensures ok { IfOk result (λ to. spec.AddsItemsOf reply.now from to
         out.old.items out.new.items) }
     ensures kept { OnErr result (take (length out.old.items) out.new.items ≡ out.old.items) }
 {
@@ -167,7 +167,7 @@ fn place_behind(
 
 /// The first piece, as `encode_piece` adds it.
 fn encode_first(reply: &Reply, out: &mut Vec<u8>) -> Result<Option<Place>, Refusal>
-    ensures ok { IfOk result (λ next. spec.AddsPiece (replies.reply_seen reply.now) 0 next out.old.items out.new.items) }
+    ensures ok { IfOk result (λ next. spec.AddsPieceOf reply.now 0 next out.old.items out.new.items) }
     ensures err { OnErr result (out.new.items ≡ out.old.items) }
     ensures why { IfErr result (λ why. replies.IsRefusedAs reply.now why) }
 {
@@ -186,7 +186,7 @@ fn encode_first(reply: &Reply, out: &mut Vec<u8>) -> Result<Option<Place>, Refus
 /// A piece that begins inside of the encoding, as `encode_piece` adds it.
 fn encode_next(reply: &Reply, from: Place, out: &mut Vec<u8>) -> Result<Option<Place>, AllocError>
     requires { spec.IsInside (replies.reply_seen reply.now) from }
-    ensures ok { IfOk result (λ next. spec.AddsPiece (replies.reply_seen reply.now) from.bytes next
+    ensures ok { IfOk result (λ next. spec.AddsPieceOf reply.now from.bytes next
         out.old.items out.new.items) }
     ensures err { OnErr result (out.new.items ≡ out.old.items) }
 {
@@ -210,7 +210,7 @@ fn encode_next(reply: &Reply, from: Place, out: &mut Vec<u8>) -> Result<Option<P
 /// Cost: O(n), n bytes of the piece; of the first one two passes over the reply beside.
 pub fn encode_piece(reply: &Reply, from: Place, out: &mut Vec<u8>) -> Result<Option<Place>, Refusal>
     requires { spec.IsPlace (replies.reply_seen reply.now) from }
-    ensures ok { IfOk result (λ next. spec.AddsPiece (replies.reply_seen reply.now) from.bytes next
+    ensures ok { IfOk result (λ next. spec.AddsPieceOf reply.now from.bytes next
         out.old.items out.new.items) }
     ensures err { OnErr result (out.new.items ≡ out.old.items) }
     ensures why { IfErr result (λ why. replies.IsRefusedAs reply.now why) }
