@@ -34,9 +34,10 @@ LATER = ("--messages", "2")
 PUSHED = say.items(E1, say.mark(1, 1, 1))
 GET = say.ask(1, say.get(1, 5))
 ROW = ("row", (9, b"\x41"))
+SNAPSHOT, LACKS_ROOM = b"\1\x22", ("refused", 90, 0, 0)
 # What a node may have in all, by the system's limit: far more than the limits below, so that who passes these is told so and not ended.
 MOST_MEMORY = 2_048 * MEGABYTE
-# What all connections may make it keep, and how many threads give long answers: each makes one reply before that counts.
+# What all connections may make it keep, half of it those that only read, and how many threads give long answers.
 LINK_BYTES, WORKERS = 200_000_000, 4
 BOUNDED = (*LATER, "--workers", str(WORKERS))
 # How much memory may be taken beside what is counted: buffers of threads, and what the allocator keeps.
@@ -48,9 +49,9 @@ LONGEST, LONGEST_ASKED = 1 << 28, 64
 # How long a change may wait beside snapshots, in seconds: these, or so many times what one snapshot takes alone. It waits for the snapshots that are being made
 # as it comes, one of each thread for long answers, and on a loaded machine these wait for a processor.
 CHANGE_SECONDS, CHANGE_TIMES = 2, 20
-# How long a change, or a question, may wait while 64 connections with 1,024 pins each end, in seconds. On an idle machine it should be 0.05. Each release looks
-# at all pins that are left, so it is 2.5 to 4.6 where four processors have thirteen programs to run; the gate's machine may be slower.
-PINS_SECONDS = 60
+# How long a change, or a question, may wait while 64 connections with 1,024 pins each end, in seconds. It should be 0.05, and is 0.01 where four processors have
+# seven programs to run; the gate's machine may have more.
+PINS_SECONDS = 2
 # How much memory a hundred trickling connections may take.
 MOST_TRICKLED = 4 * MEGABYTE
 # How many lines a node may print in three seconds in which it can open no file, that of a failed accept each tenth of a second at each of three ports, thrice.
@@ -134,7 +135,7 @@ def take_snapshot(link):
     """Takes a full snapshot, and looks at none of its rows; gives how many bytes it has."""
     link.send(say.full())
     head = link.read(6)
-    assert head[4:] == b"\1\x22", head
+    assert head[4:] == SNAPSHOT, head
     size = int.from_bytes(head[:4], "big")
     left = size - 2
     while left:
@@ -151,9 +152,29 @@ def small_change(number):
 
 # ---------------------------------------------------------------- memory
 
+def how_begun(link):
+    """What a reader is told first of the snapshot that it asked for: that it begins, why there is none, or that its connection ended."""
+    try:
+        head = link.read(6)
+        return "begins" if head[4:] == SNAPSHOT else say.read_reply(head[4:] + link.read(int.from_bytes(head[:4], "big") - 2))
+    except (EOFError, ConnectionError):
+        return "ended"
+
+
+def is_read_on(link, left):
+    """Whether the rest of a snapshot comes that was begun."""
+    try:
+        while left:
+            left -= len(link.read(min(left, MEGABYTE)))
+        return True
+    except (EOFError, ConnectionError):
+        return False
+
+
 def unread_snapshots(count):
-    """So many readers ask for all of a node at once and read nothing: it keeps of them what `--link-bytes` says, and ends the others; who asks for a row, and who
-    feeds, is answered."""
+    """So many readers ask for all of a node at once and read no more than how that begins. It keeps what is still to be written of as many as `--link-bytes` has room
+    for, and refuses the others before anything is made for them; they go on, and who asks for a row, and who feeds, is answered. What was begun comes whole. Of
+    those that are begun at the same moment, one for each thread, one that finds no room then is ended."""
     entries = 13
     with bounded() as limits, Staying(1, *BOUNDED, "--link-bytes", str(LINK_BYTES), reading=count + 2, feeding=1, **limits) as node, contextlib.ExitStack() as stack:
         filled(node, entries, 4_000)
@@ -164,13 +185,17 @@ def unread_snapshots(count):
         from_now_on(node)
         for reader in readers:
             reader.send(say.full())
-        pairs = [("another reader", other.ask(say.ask(1, say.get(1, 1_000))), ("row", (9, b"x" * 4_000))), ("a feeder", feeder.ask(small_change(entries + 1)), ("fed", entries + 2, 2))]
-        least_ended = count - LINK_BYTES // (reply - IN_SOCKETS)
-        pairs += [("how they ended", {node.line() for _ in range(least_ended)}, {"ended 90"}), ("another reader after them", other.ask(say.front()), ("front", 0, entries + 1))]
-        most, limit = most_memory(node), rows + LINK_BYTES + WORKERS * reply + MARGIN
-        pairs.append(("it runs on", node.child.poll(), None))
-    report(f"{count} readers that ask for all and read nothing", differ(pairs) + within("memory", most, limit),
-           f"{megabytes(most)}, at most {megabytes(limit)}; {megabytes(rows)} without them, {megabytes(reply)} are a snapshot")
+        told = {reader: how_begun(reader) for reader in readers}
+        refused = [reader for reader, first in told.items() if first == LACKS_ROOM]
+        pairs = [("what else they were told", set(told.values()) - {LACKS_ROOM, "begins", "ended"}, set()),
+                 ("another reader", other.ask(say.ask(1, say.get(1, 1_000))), ("row", (9, b"x" * 4_000))), ("a feeder", feeder.ask(small_change(entries + 1)), ("fed", entries + 2, 2)),
+                 ("those that were refused", {reader.ask(say.front()) for reader in refused}, {("front", 0, entries + 1)})]
+        least_refused = count - LINK_BYTES // 2 // (reply - IN_SOCKETS) - 2 * WORKERS
+        most = most_memory(node)
+        whole = sum(is_read_on(reader, reply - 2) for reader, first in told.items() if first == "begins")
+        pairs += [("enough were refused", len(refused) >= least_refused, True), ("some came whole", whole > 0, True), ("it runs on", node.child.poll(), None)]
+    report(f"{count} readers that ask for all and read nothing", differ(pairs) + within("memory", most, rows + MARGIN),
+           f"{megabytes(most)}, at most {megabytes(rows + MARGIN)}; {megabytes(rows)} without them, {megabytes(reply)} are a snapshot; {len(refused)} were refused, {whole} came whole")
 
 
 def send_some(link, data):
