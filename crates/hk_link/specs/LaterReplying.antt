@@ -118,6 +118,10 @@ TellsFirst budget old cut most reply new =
     ((reply, new) ≡ whole_step old cut most)
     ⊎ (((reply ≡ Refused refusals.Memory) ⊎ (IsOk cut × (reply ≡ Refused (refusals.LinkFull budget)))) × (new ≡ None))
 
+-- nothing was cut for want of memory, or since it would find no room among what all links of the node keep
+abbrev pub RefusesCut : ℕ → NodeContent → ℕ → ReplyValue → Type 0
+RefusesCut budget c base reply = (reply ≡ Refused refusals.Memory) ⊎ (IsOk (cut_of c base) × (reply ≡ Refused (refusals.LinkFull budget)))
+
 -- nothing changed but the host for version 1, and what is given
 abbrev pub KeepsCameAndHolds : {S : Type 0} → LinkValue S → LinkValue S → Type 0
 KeepsCameAndHolds old new = new ≡ record old { inner = new.inner; giving = new.giving }

@@ -232,6 +232,25 @@ impl<'a> LinkState<'a> {
         replace(&mut self.came, IncomingParts::new(self.alloc, self.budget)).into_parts()
     }
 
+    /// How many bytes all connections may keep.
+    pub(crate) fn most(&self) -> u64
+        ensures { result ≡ self.now.most }
+    {
+        self.budget.most()
+    }
+
+    /// About how many bytes the budget has left, and this connection reserved for what is between its socket and its session. It
+    /// promises nothing.
+    pub(crate) fn left(&self) -> u64 {
+        self.buffers.left().saturating_add(self.buffers.count())
+    }
+
+    /// The number of the pin that the connection made last of those that it has. Cost: O(1).
+    pub(crate) fn last_pin(&self) -> Option<u64> {
+        let hold = self.holds.last()?;
+        Some(hold.reader)
+    }
+
     /// How many pins the connection has. Cost: O(1).
     pub fn hold_count(&self) -> usize
         ensures { result ≡ length self.now.holds }

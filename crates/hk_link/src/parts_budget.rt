@@ -90,6 +90,11 @@ impl Stock {
         seat
     }
 
+    /// About how many are left: others may take of them at any time. It promises nothing.
+    fn left(&self) -> u64 {
+        self.table.shared.peek(0)
+    }
+
     /// Reserves so many for a room, where so many are left. It tries as often as others change what is left.
     fn take(&self, room: &mut Seat<(), u64>, count: u64) -> bool
         requires { room.old.table_id ≡ self.now.table }
@@ -171,7 +176,7 @@ impl PartsBudget {
     pub fn reserved(&self) -> u64
         ensures { result ≤ self.now }
     {
-        self.most().saturating_sub(self.bytes.table.shared.peek(0))
+        self.most().saturating_sub(self.bytes.left())
     }
 }
 
@@ -208,6 +213,11 @@ impl<'a> Room<'a> {
             count: 0,
             seat: stock.enter(),
         }
+    }
+
+    /// About how many are left of its stock.
+    pub(crate) fn left(&self) -> u64 {
+        self.stock.left()
     }
 
     /// How many are reserved.

@@ -5,7 +5,7 @@ ghost use mathlib.Core.List.{IsPrefix};
 ghost use Rattle.hk_fragment.specs.Heads.{of_facts};
 ghost use Rattle.hk_wire.specs.LaterReplies.{reply_seen};
 ghost use Rattle.hk_oplog.specs.Replay.{is_legal};
-ghost use Rattle.hk_link.specs.LaterReplying.{AreLetGo, AsksHoldInPlace, IsFirstReply, IsFull, IsHeld, IsLaterReply, IsOrMemory, IsReleased, JoinsMade, KeepsButCame, KeepsButGiving, KeepsCameAndHolds, KeepsOther, LetsGo, MayReplyBoth, TellsCome, TellsMore, TellsNumbers, TellsSizes, TellsTables, TellsWhole, change_seen, content_of, latest_reply, page_reply, ready_reply, streams_reply};
+ghost use Rattle.hk_link.specs.LaterReplying.{AreLetGo, AsksHoldInPlace, IsFirstReply, IsFull, IsHeld, IsLaterReply, IsOrMemory, IsReleased, JoinsMade, KeepsButCame, KeepsButGiving, KeepsCameAndHolds, KeepsOther, LetsGo, MayReplyBoth, RefusesCut, TellsCome, TellsMore, TellsNumbers, TellsSizes, TellsTables, TellsWhole, change_seen, content_of, latest_reply, page_reply, ready_reply, streams_reply};
 ghost use Rattle.hk_link.specs.LinkStates.{fresh_state, link_of};
 
 use crate::link_state::LinkState;
@@ -70,6 +70,20 @@ fn refusal_of(reply: &Reply) -> Option<u8> {
     }
 }
 
+/// Whether the answer to a query may have many rows.
+fn is_long(query: &Query) -> bool {
+    matches!(query, Query::Range { .. } | Query::ByTag { .. })
+}
+
+/// Whether the reply to a request of version 1 may be long.
+fn may_be_long(request: &Request) -> bool {
+    match request {
+        Request::Delta { .. } | Request::Full => true,
+        Request::Ask { query, .. } => is_long(query),
+        _ => false,
+    }
+}
+
 impl<'a, H: NodeSide + Drop> PartsHost<'a, H> {
     /// A host for both versions over one for version 1, with what the connection keeps. It takes no memory.
     pub fn new(inner: H, kept: LinkState<'a>) -> PartsHost<'a, H>
@@ -99,6 +113,20 @@ impl<'a, H: NodeSide + Drop> PartsHost<'a, H> {
         let mut inner = self.inner;
         let left = self.kept.release_all(&mut inner);
         (inner, left)
+    }
+
+    /// The number of the pin that the connection made last of those that it has, if it has one: a Release of it is one of a pin of this
+    /// connection. Cost: O(1).
+    pub fn last_pin(&self) -> Option<u64> {
+        self.kept.last_pin()
+    }
+
+    /// Has answers and cuts keep within what the budget has left for this connection.
+    fn keep_within(&mut self)
+        ensures { self.new ≡ self.old }
+    {
+        let left = self.kept.left();
+        self.inner.keep_within(left);
     }
 
     fn streams(&mut self) -> LaterReply
@@ -173,6 +201,9 @@ impl<'a, H: NodeSide + Drop> PartsHost<'a, H> {
         ensures told { IsOrMemory (latest_reply (content_of H.side self.new) query.now) (reply_seen result) }
         ensures ready { H.ready self.old.inner → H.ready self.new.inner }
     {
+        if is_long(query) {
+            self.keep_within();
+        }
         match self.inner.latest(query) {
             Ok((t, answer)) => LaterReply::Latest { t, answer },
             Err(why) => LaterReply::Refused(why),
@@ -201,13 +232,34 @@ impl<'a, H: NodeSide + Drop> PartsHost<'a, H> {
         ensures same { KeepsCameAndHolds self.old self.new }
         ensures ready { H.ready self.old.inner → H.ready self.new.inner }
     {
+        self.keep_within();
         match self.inner.cut(base) {
             Ok(fragment) => self.kept.begin(fragment, most),
+            Err(Refusal::Memory) => {
+                self.kept.stop_giving();
+                self.refuse_cut(base)
+            }
             Err(why) => {
                 self.kept.stop_giving();
                 LaterReply::Refused(why)
             }
         }
+    }
+
+    /// The refusal of what was not cut for want of memory: where that is for the budget's limit, so many bytes are the most.
+    fn refuse_cut(&mut self, base: Time) -> LaterReply
+        ensures seen { IsPrefix (H.side.list self.old.inner) (H.side.list self.new.inner) }
+        ensures legal { is_legal (H.side.list self.new.inner) ≡ true }
+        ensures told { RefusesCut self.old.most (content_of H.side self.new) base (reply_seen result) }
+        ensures same { KeepsOther self.old self.new }
+        ensures ready { H.ready self.old.inner → H.ready self.new.inner }
+    {
+        if self.inner.is_cut_above(base) {
+            return LaterReply::Refused(Refusal::LinkFull {
+                most: self.kept.most(),
+            });
+        }
+        LaterReply::Refused(Refusal::Memory)
     }
 
     /// Has the inner host join what the head and the chunks that came make.
@@ -311,6 +363,9 @@ impl<'a, H: NodeSide + Drop> PartsHost<'a, H> {
         ensures ready { H.ready self.new.inner }
     {
         H::laws();
+        if may_be_long(&request) {
+            self.keep_within();
+        }
         self.inner.answer(request)
     }
 
@@ -343,8 +398,8 @@ impl<'a, H: NodeSide + Drop> PartsHost<'a, H> {
         }
     }
 
-    /// Answers a request of either version.
-    fn answer_either(&mut self, request: Request) -> Reply
+    /// Answers a request of either version that no peer sent: it isn't counted.
+    pub fn answer_uncounted(&mut self, request: Request) -> Reply
         requires ready { H.ready self.old.inner }
         ensures told { MayReplyBoth H.side H.may self.old request result self.new }
         ensures ready { H.ready self.new.inner }
@@ -365,7 +420,7 @@ impl<'a, H: NodeSide + Drop> Host for PartsHost<'a, H> {
 
     fn answer(&mut self, request: Request) -> Reply {
         let kind = kind_of(&request);
-        let reply = self.answer_either(request);
+        let reply = self.answer_uncounted(request);
         self.kept.count(kind, refusal_of(&reply));
         reply
     }

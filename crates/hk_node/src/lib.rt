@@ -10,7 +10,7 @@ mod replica;
 mod seat;
 
 pub use book::{NewList, NodeName};
-pub use hk_oplog::{Hold, NodeKind, Op, laws, next_op};
+pub use hk_oplog::{Hold, NodeKind, NodeSizes, Op, laws, next_op};
 pub use hk_types::LAST_OP;
 pub use node::{Node, start};
 pub use publisher::{Publisher, Receipt};

@@ -1,11 +1,13 @@
 //! The seats of readers, which take no lock and never wait: a seat is a reader's session with monotonic reads.
 
-ghost use Rattle.std.specs.Prelude.{◌≡◌, ◌≢◌, ◌⊎◌, All, true, length, IfOk, IfErr, IsTrue, vec_len};
+ghost use Rattle.std.specs.Prelude.{◌≡◌, ◌≢◌, ◌⊎◌, All, true, length, IsOk, IfOk, IfErr, IsTrue, vec_len};
 ghost use Rattle.hk_types.specs.declared.faults.Refusal.TheVariants.{Damaged, Memory};
 ghost use Rattle.hk_model.specs.Replica.Pages.{page_seen};
 ghost use Rattle.hk_model.specs.Replica.StreamsTold.{streams_seen};
 ghost use mathlib.Core.List.{IsPrefix};
 ghost use Rattle.left_right.specs.Sides.{view as known};
+ghost use Rattle.hk_store.specs.Reads.{facts_of_content};
+ghost use Rattle.hk_store.specs.TableLists.{AreTables};
 ghost use Rattle.hk_oplog.specs.Carried.{IsLatestOfPrimary, IsOfPrimary};
 ghost use Rattle.hk_oplog.specs.Final.{IsFinal, IsLatestFinal, IsPageFinal};
 ghost use Rattle.hk_oplog.specs.Holds.{HoldsBack};
@@ -19,6 +21,7 @@ use crate::replica::Replica;
 use atomic_table::{Join, Split};
 use hk_delta::Fragment;
 use hk_model::{Answer, Front, Page, Query, StreamsTold};
+use hk_oplog::NodeSizes;
 use hk_types::{Config, Key, Refusal, Table, Time};
 use std::alloc::{AllocError, Global};
 use std::marker::{Model, PhantomData};
@@ -87,6 +90,8 @@ pub struct ReaderSeat<J: NodeName> {
     reader: Option<NodeReader>,
     prefix: Prefix,
     alloc: Global,
+    /// How many bytes an answer may take.
+    room: u64,
     of: PhantomData<J>,
 }
 
@@ -136,8 +141,17 @@ impl<J: NodeName> ReaderSeat<J> {
             reader: Some(reader),
             prefix,
             alloc,
+            room: u64::MAX,
             of: PhantomData,
         }
+    }
+
+    /// From now on an answer, a delta or a full snapshot that would take more bytes than so many, at most counted, is refused
+    /// `Memory` before anything of it is made, and after the other refusals. A page always has room. A new seat has no such limit.
+    pub fn keep_within(&mut self, room: u64)
+        ensures { self.new ≡ self.old }
+    {
+        self.room = room;
     }
 
     /// Enters the copy that was published last, and notes what it has seen.
@@ -181,7 +195,12 @@ impl<J: NodeName> ReaderSeat<J> {
         ensures answer { Answers (node_reply (replay self.new) time query.now) result }
     {
         let reading = self.enter()?;
-        let answer = reading.get().body.ask(self.alloc, time, query);
+        let body = &reading.get().body;
+        let answer = if body.is_answer_above(self.alloc, time, query, self.room) {
+            Err(Refusal::Memory)
+        } else {
+            body.ask(self.alloc, time, query)
+        };
         self.leave(reading);
         answer
     }
@@ -193,7 +212,12 @@ impl<J: NodeName> ReaderSeat<J> {
         ensures err { IfErr result (λ why. (why ≡ Memory) ⊎ (why ≡ Damaged)) }
     {
         let reading = self.enter()?;
-        let latest = reading.get().body.latest(self.alloc, query);
+        let body = &reading.get().body;
+        let latest = if body.is_latest_above(self.alloc, query, self.room) {
+            Err(Refusal::Memory)
+        } else {
+            body.latest(self.alloc, query)
+        };
         self.leave(reading);
         latest
     }
@@ -204,7 +228,13 @@ impl<J: NodeName> ReaderSeat<J> {
         ensures delta { GivesOrMemory (node_delta (replay self.new) base) result }
     {
         let reading = self.enter()?;
-        let delta = reading.get().body.delta_since(self.alloc, base);
+        let body = &reading.get().body;
+        let is_too_much = base.number() > 0 && body.is_cut_above(self.alloc, base, self.room);
+        let delta = if is_too_much {
+            Err(Refusal::Memory)
+        } else {
+            body.delta_since(self.alloc, base)
+        };
         self.leave(reading);
         delta
     }
@@ -247,7 +277,12 @@ impl<J: NodeName> ReaderSeat<J> {
         ensures whole { GivesOrMemory (node_whole (replay self.new)) result }
     {
         let reading = self.enter()?;
-        let whole = reading.get().body.whole(self.alloc);
+        let body = &reading.get().body;
+        let whole = if body.is_cut_above(self.alloc, Time::zero(), self.room) {
+            Err(Refusal::Memory)
+        } else {
+            body.whole(self.alloc)
+        };
         self.leave(reading);
         whole
     }
@@ -323,6 +358,53 @@ impl<J: NodeName> ReaderSeat<J> {
         let streams = reading.get().body.streams(self.alloc);
         self.leave(reading);
         streams
+    }
+
+    /// How much the node holds, and how far its list is: of a failed node too. The only refusal is `Memory`, where the seat can't enter.
+    /// Cost: O(1).
+    pub fn sizes(&mut self) -> Result<NodeSizes, Refusal>
+        ensures legal { is_legal self.new ≡ true }
+        ensures seen { IsPrefix self.old self.new }
+        ensures operations { IfOk result (λ s. s.operations ≡ (replay self.new).op_count) }
+        ensures pins { IfOk result (λ s. s.pins ≡ length (replay self.new).holds) }
+        ensures guarded { IfOk result (λ s. s.guarded ≡ (replay self.new).guarded) }
+        ensures damaged { IfOk result (λ s. s.damaged ≡ (replay self.new).damaged) }
+        ensures err { IfErr result (λ why. why ≡ Memory) }
+    {
+        let reading = self.enter()?;
+        let sizes = reading.get().body.sizes();
+        self.leave(reading);
+        Ok(sizes)
+    }
+
+    /// The tables of which the node holds a row or an end, by rising number: of a failed node too. The only refusal is `Memory`.
+    /// Cost: O(t · log n), t tables, n facts.
+    pub fn tables(&mut self) -> Result<Vec<Table>, Refusal>
+        ensures legal { is_legal self.new ≡ true }
+        ensures seen { IsPrefix self.old self.new }
+        ensures tables { IfOk result (λ tables. AreTables (facts_of_content (replay self.new).content) tables.items) }
+        ensures err { IfErr result (λ why. why ≡ Memory) }
+    {
+        let reading = self.enter()?;
+        let tables = reading.get().body.tables(self.alloc);
+        self.leave(reading);
+        Ok(tables?)
+    }
+
+    /// Whether a delta, or for the base 0 the full snapshot, would be made but for the limit of `keep_within`. Where the seat can't enter it
+    /// says no. Cost: O(1) for the full snapshot, and where all that is held is within the limit; else that of a delta without its copies.
+    pub fn is_cut_above(&mut self, base: Time) -> bool
+        ensures legal { is_legal self.new ≡ true }
+        ensures seen { IsPrefix self.old self.new }
+        ensures whole { result ≡ true → IsOk (node_whole (replay self.new)) }
+        ensures delta { result ≡ true → (base ≡ 0) ⊎ IsOk (node_delta (replay self.new) base) }
+    {
+        let Ok(reading) = self.enter() else {
+            return false;
+        };
+        let is_above = reading.get().body.is_cut_above(self.alloc, base, self.room);
+        self.leave(reading);
+        is_above
     }
 
     /// The node's range of readable times. Refusals in order: `Damaged`, `Memory`. Cost: O(s), s streams.

@@ -1,4 +1,5 @@
 pub mod LegalLists
+pub mod Pins
 pub mod JoinTests
 pub mod Holds
 pub mod GuardedLists

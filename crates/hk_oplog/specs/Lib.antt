@@ -1,4 +1,5 @@
 pub mod NodeContent
+pub mod Pins
 pub mod Replay
 pub mod Holds
 pub mod Final

@@ -1,6 +1,6 @@
 //! What a copy of the node's state holds, and what operations make of it.
 
-ghost use Rattle.std.specs.Prelude.{◌≡◌, ◌⊎◌, ◌<◌, ◌≤◌, ◌^◌, None, IfOk, IfErr, MatchResult};
+ghost use Rattle.std.specs.Prelude.{◌≡◌, ◌⊎◌, ◌<◌, ◌≤◌, ◌^◌, true, length, None, IsOk, IfOk, IfErr, MatchResult};
 ghost use Rattle.std.specs.Option.{option_map};
 ghost use Rattle.hk_types.specs.declared.faults.Refusal.TheVariants.{Damaged, Memory};
 ghost use Rattle.hk_model.specs.Replica.Fragments.{cut};
@@ -10,14 +10,20 @@ ghost use Rattle.hk_model.specs.Replica.Pages.{page_seen};
 ghost use Rattle.hk_model.specs.Replica.StreamsTold.{streams_seen};
 ghost use Rattle.hk_oplog.specs.declared.op.Op.TheVariants.{Hold as HoldAt, Join as JoinOf, Prune as PruneTo, Release};
 ghost use Rattle.hk_oplog.specs.Replay as spec;
+ghost use Rattle.std.specs.BTreeMap as tree;
 ghost use Rattle.std.specs.List.{list_any};
+ghost use Rattle.std.specs.Ordering.{nat_cmp};
+ghost use Rattle.hk_oplog.specs.Pins.{pins_of};
 ghost use Rattle.hk_oplog.specs.Replay.{is_hold, content_after_op, start_content, effect, full_refusal, held_refusal, past_refusal, prune_reach, refusal_of, IsApplied};
 ghost use Rattle.hk_merge.specs.Sent.{fragment_sent};
+ghost use Rattle.hk_store.specs.Reads.{facts_of_content};
+ghost use Rattle.hk_store.specs.TableLists.{AreTables};
 ghost use Rattle.hk_oplog.specs.Guarded.{AgreesWith};
 ghost use Rattle.hk_oplog.specs.NewItems.{count_new};
 ghost use Rattle.hk_oplog.specs.Replies.{Answers, GivesOrMemory, GivesSeen, timed_seen, node_delta, node_front, node_latest, node_page, node_reply, node_streams, node_whole};
 
 use crate::op::{Hold, NodeKind, Op};
+use crate::sizes::NodeSizes;
 use hk_delta::{Fragment, agreed_so, conflicts_with, delta_since, join, whole_of};
 use hk_log::Item;
 use hk_merge::{Sent, join_touches_past, wrong_log};
@@ -26,6 +32,7 @@ use hk_query::{ask, latest, page};
 use hk_state::{ReplicaState, front_of};
 use hk_types::{Config, Key, LAST_OP, Refusal, Table, Time};
 use std::alloc::{AllocError, Global};
+use std::collections::BTreeMap;
 use std::marker::Model;
 
 /// The number of the operation after so many, or `NodeFull` after `LAST_OP` of them. It takes no memory.
@@ -43,7 +50,8 @@ pub fn next_op(count: u64) -> Result<u64, Refusal>
 #[derive(Drop)]
 pub struct Body {
     state: ReplicaState,
-    holds: Vec<Hold>,
+    /// The active pins, by their numbers.
+    holds: BTreeMap<u64, Time>,
     damaged: bool,
     guarded: bool,
     hold_count: u64,
@@ -53,50 +61,50 @@ pub struct Body {
 impl Model for Body {
     ghost use Rattle.std.specs.Prelude.{◌≤◌, ◌^◌};
     ghost use Rattle.hk_oplog.specs.NodeContent.{NodeContent, node_code};
+    ghost use Rattle.hk_oplog.specs.Pins.{AreNumbered, pins_of};
 
     ghost Value = { NodeContent };
 
     ghost coded = { node_code };
 
-    ghost view = { λ b. record { content = b.state; holds = b.holds.items; damaged = b.damaged; guarded = b.guarded; hold_count = b.hold_count; op_count = b.op_count } };
+    ghost view = { λ b. record { content = b.state; holds = pins_of b.holds; damaged = b.damaged; guarded = b.guarded; hold_count = b.hold_count; op_count = b.op_count } };
 
-    ghost invariant = { λ b. (b.hold_count ≤ b.op_count) × (b.op_count ≤ 2 ^ 62) };
+    ghost invariant = { λ b. (b.hold_count ≤ b.op_count) × (b.op_count ≤ 2 ^ 62) × AreNumbered b.hold_count b.holds };
 }
 
 /// The first of two pins, by time and then by number.
-fn first_of_two(least: Option<Hold>, hold: &Hold) -> Option<Hold>
-    ensures { result ≡ spec.first_of_two least hold.now }
+fn first_of_two(least: Option<Hold>, reader: u64, at: Time) -> Option<Hold>
+    ensures { result ≡ spec.first_of_two least (record { reader = reader; at = at }) }
 {
     if let Some(least) = least {
-        let is_before = hold.at < least.at || (hold.at == least.at && hold.reader < least.reader);
+        let is_before = at < least.at || (at == least.at && reader < least.reader);
         if !is_before {
             return Some(least);
         }
     }
-    Some(Hold {
-        reader: hold.reader,
-        at: hold.at,
-    })
+    Some(Hold { reader, at })
 }
 
 /// The pin of the least time, and of the least number there. It takes no memory.
-fn least_hold(holds: &[Hold]) -> Option<Hold>
-    ensures { result ≡ spec.least_hold holds.now }
+fn least_hold(holds: &BTreeMap<u64, Time>) -> Option<Hold>
+    ensures { result ≡ spec.least_hold (pins_of holds.now) }
 {
     let mut least = None;
-    for hold in holds {
-        least = first_of_two(least, hold);
+    for (reader, at) in holds.iter() {
+        least = first_of_two(least, *reader, *at);
     }
     least
 }
 
-/// Whether a pin of this number and time is among these. It takes no memory.
-fn is_among(holds: &[Hold], reader: u64, at: Time) -> bool
-    ensures { result ≡ list_any (is_hold reader at) holds.now }
+/// Whether a pin of this number and time is among these. It takes no memory. Cost: O(log h), h pins.
+fn is_among(holds: &BTreeMap<u64, Time>, reader: u64, at: Time) -> bool
+    requires { tree.IsOrdered nat_cmp holds.now }
+    ensures { result ≡ list_any (is_hold reader at) (pins_of holds.now) }
 {
-    holds
-        .iter()
-        .any(|hold| hold.reader == reader && hold.at == at)
+    match holds.get(&reader) {
+        Some(time) => *time == at,
+        None => false,
+    }
 }
 
 impl Body {
@@ -107,7 +115,7 @@ impl Body {
     {
         Ok(Body {
             state: ReplicaState::new(alloc, kind.config)?,
-            holds: Vec::new(alloc),
+            holds: BTreeMap::new(alloc),
             damaged: false,
             guarded: kind.guarded,
             hold_count: 0,
@@ -341,7 +349,7 @@ impl Body {
     }
 
     /// Why an operation is refused, if it is. It is never refused for want of memory. Cost: O(s + h), s streams, h active
-    /// pins, which are looked at where a join would raise the oldest readable time, and for a release; where this is guarded,
+    /// pins, which are looked at where a join would raise the oldest readable time; a release costs O(log h); where this is guarded,
     /// for a join or merge also that of `conflicts_with` and of `hk_merge::join_touches_past`, for a prune that of
     /// `ReplicaState::prune_touches_past`.
     pub fn refusal(&self, op: &Op) -> Option<Refusal>
@@ -425,18 +433,19 @@ impl Body {
         ensures { MatchResult result (λ _. self.new ≡ effect self.old (HoldAt at)) (λ _. self.new ≡ self.old) }
     {
         let reader = self.hold_count + 1;
-        self.holds.push(Hold { reader, at })?;
+        self.holds.insert(reader, at)?;
         self.hold_count = reader;
         self.op_count += 1;
         Ok(())
     }
 
+    /// Removes a pin that is among the active ones. Cost: O(log h), h pins.
     fn release(&mut self, reader: u64, at: Time)
-        requires { self.old.op_count < 2 ^ 62 }
+        requires room { self.old.op_count < 2 ^ 62 }
+        requires among { list_any (is_hold reader at) self.old.holds ≡ true }
         ensures { self.new ≡ effect self.old (Release reader at) }
     {
-        self.holds
-            .retain(|hold| !(hold.reader == reader && hold.at == at));
+        self.holds.remove(&reader);
         self.op_count += 1;
     }
 
@@ -560,6 +569,83 @@ impl Body {
             least_hold: self.least_held(),
             streams,
         })
+    }
+
+    /// How much it holds, and how far its list is, even where it failed. It takes no memory. Cost: O(1).
+    pub fn sizes(&self) -> NodeSizes
+        ensures operations { result.operations ≡ self.now.op_count }
+        ensures pins { result.pins ≡ length self.now.holds }
+        ensures guarded { result.guarded ≡ self.now.guarded }
+        ensures damaged { result.damaged ≡ self.now.damaged }
+    {
+        let tally = self.state.facts().tally();
+        NodeSizes {
+            rows: tally.rows,
+            ends: tally.ends,
+            bytes: tally.bytes,
+            operations: self.op_count,
+            pins: self.holds.len() as u64,
+            guarded: self.guarded,
+            damaged: self.damaged,
+        }
+    }
+
+    /// The tables of which it holds a row or an end, by rising number, even where it failed. The only error is out of memory. Cost:
+    /// O(t · log n), t tables, n facts.
+    pub fn tables(&self, alloc: Global) -> Result<Vec<Table>, AllocError>
+        ensures { IfOk result (λ tables. AreTables (facts_of_content self.now.content) tables.items) }
+    {
+        self.state.facts().tables(alloc)
+    }
+
+    /// Whether its full snapshot, or what it holds since a time above 0, takes more bytes than so many, at most counted.
+    /// Where it would be refused for another reason it says no. Cost: O(1) for the full snapshot, and where all that is held has no
+    /// more bytes; else O((1 + k) · log n), k versions with a row or an end above the time, n facts.
+    pub fn is_cut_above(&self, alloc: Global, base: Time, room: u64) -> bool
+        ensures whole { result ≡ true → IsOk (node_whole self.now) }
+        ensures delta { result ≡ true → (base ≡ 0) ⊎ IsOk (node_delta self.now base) }
+    {
+        let all = self.state.facts().bytes_of_all();
+        if self.damaged || all <= room {
+            return false;
+        }
+        if base.number() == 0 {
+            return true;
+        }
+        if base < self.state.horizon() {
+            return false;
+        }
+        match self.state.facts().bytes_above(alloc, base) {
+            Ok(bytes) => bytes > room,
+            Err(_no_memory) => true,
+        }
+    }
+
+    /// Whether the answer to a query at a time takes more bytes than so many, at most counted. Where it would be refused it
+    /// says no. Cost: O(1) where all that is held has no more bytes; else that of the answer without its copies.
+    pub fn is_answer_above(&self, alloc: Global, time: Time, query: &Query, room: u64) -> bool {
+        let facts = self.state.facts();
+        if self.damaged || facts.bytes_of_all() <= room {
+            return false;
+        }
+        if time < self.state.horizon() || self.state.readable() < time {
+            return false;
+        }
+        match query {
+            Query::Range { table, low, high } => {
+                facts.bytes_between(*table, *low, *high, time) > room
+            }
+            Query::ByTag { table, tag } => match facts.bytes_tagged(alloc, *table, *tag, time) {
+                Ok(bytes) => bytes > room,
+                Err(_no_memory) => true,
+            },
+            Query::Get { .. } | Query::Count { .. } => false,
+        }
+    }
+
+    /// The same at its resolved time.
+    pub fn is_latest_above(&self, alloc: Global, query: &Query, room: u64) -> bool {
+        self.is_answer_above(alloc, self.state.readable(), query, room)
     }
 
     /// Its range of readable times.

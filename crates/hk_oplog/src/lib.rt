@@ -5,6 +5,8 @@ mod body;
 pub mod laws;
 mod new_items;
 mod op;
+mod sizes;
 
 pub use body::{Body, next_op};
 pub use op::{Hold, NodeKind, Op};
+pub use sizes::NodeSizes;

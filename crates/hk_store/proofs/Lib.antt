@@ -25,3 +25,4 @@ pub mod SameRows
 pub mod TaggedRows
 pub mod TaggedVersions
 pub mod WalkedChains
+pub mod TableLists

@@ -8,3 +8,4 @@ pub mod Paging
 pub mod Reads
 pub mod Sweeps
 pub mod Versions
+pub mod TableLists

@@ -47,10 +47,11 @@ impl Model for Chains {
     ghost invariant = { λ a. AreStored (map_of row_key_cmp a.chains) };
 }
 
-/// What is removed with a part of a version, where it was known: the tag of the row, and the end.
+/// What is removed with a part of a version, where it was known: the tag of the row, how many bytes its body has, and the end.
 #[derive(Drop)]
 pub(crate) struct Lost {
     pub(crate) tag: Option<Tag>,
+    pub(crate) bytes: usize,
     pub(crate) died: Option<Time>,
 }
 
@@ -140,6 +141,7 @@ impl Chains {
         let Some(chain) = self.chains.get_mut(row) else {
             return Lost {
                 tag: None,
+                bytes: 0,
                 died: None,
             };
         };
@@ -214,7 +216,16 @@ fn lost_of(chain: &Chain, born: Time, part: Part) -> Lost
     let known = chain.version(born);
     Lost {
         tag: known.and_then(|version| tag_in(version, part)),
+        bytes: known.map_or(0, body_bytes),
         died: known.and_then(|version| end_in(version, part)),
+    }
+}
+
+/// How many bytes the body of a version's row has.
+fn body_bytes(version: &Version) -> usize {
+    match version.row() {
+        Some(row) => row.body().len(),
+        None => 0,
     }
 }
 

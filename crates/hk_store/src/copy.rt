@@ -26,6 +26,7 @@ impl Facts {
             births,
             deaths,
             spare: Undo::new(alloc),
+            tally: self.tally,
         })
     }
 }

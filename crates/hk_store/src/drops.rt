@@ -9,6 +9,7 @@ ghost use Rattle.hk_store.specs.Indexed.{BirthsLeft};
 
 use crate::chains::Chains;
 use crate::facts::Facts;
+use crate::tally::Tally;
 use hk_facts::Part;
 use hk_index::{BirthIndex, TagKeys};
 use hk_types::{Refusal, Time, VersionKey};
@@ -37,7 +38,7 @@ impl Facts {
     {
         let ended = self.ended(self.allocator(), until)?;
         let many = self.is_many(ended.len());
-        drop_ended(&mut self.chains, &ended, until, many);
+        drop_ended(&mut self.chains, &mut self.tally, &ended, until, many);
         forget_births(&mut self.tags, &mut self.births, &ended);
         self.deaths.drop_until(until);
         self.tidy();
@@ -56,23 +57,30 @@ impl Facts {
 }
 
 /// Drops the versions that ended by a time: in one pass over the chains, or one after the other by the list of them.
-fn drop_ended(chains: &mut Chains, ended: &[VersionKey], until: Time, in_one_pass: bool)
+fn drop_ended(
+    chains: &mut Chains,
+    tally: &mut Tally,
+    ended: &[VersionKey],
+    until: Time,
+    in_one_pass: bool,
+)
     requires { (q : VersionKey) → is_among ended.now q ≡ ended_by chains.old.ends until q }
     ensures { chains.new ≡ pruned_facts chains.old until }
 {
     if in_one_pass {
-        chains.sweep(until);
+        chains.sweep(tally, until);
     } else {
-        forget_all(chains, ended);
+        forget_all(chains, tally, ended);
     }
 }
 
 /// Drops all that is known of these versions.
-fn forget_all(chains: &mut Chains, versions: &[VersionKey])
+fn forget_all(chains: &mut Chains, tally: &mut Tally, versions: &[VersionKey])
     ensures { chains.new ≡ without_all chains.old versions.now }
 {
     for version in versions {
-        chains.forget(version, Part::Whole);
+        let lost = chains.forget(version, Part::Whole);
+        tally.lose(&lost);
     }
 }
 

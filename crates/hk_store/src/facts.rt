@@ -19,6 +19,7 @@ use crate::chains::Chains;
 use crate::key_index::KeyIndex;
 use crate::tag_index::TagIndex;
 use crate::tagged::keys_by_tag;
+use crate::tally::Tally;
 use crate::undo::Undo;
 use hk_facts::{Chain, Fact, Part};
 use hk_index::{BirthIndex, TagKeys, TimeIndex};
@@ -35,6 +36,8 @@ pub struct Facts {
     pub(crate) deaths: TimeIndex,
     /// A list for the next undo, with nothing in it that counts.
     pub(crate) spare: Undo,
+    /// How much is held.
+    pub(crate) tally: Tally,
 }
 
 // Written out, so that a crate above which drops one sees one call, and not all that it holds.
@@ -46,6 +49,7 @@ impl Drop for Facts {
             births,
             deaths,
             spare,
+            tally: _,
         } = self;
         drop(chains);
         drop(tags);
@@ -79,7 +83,13 @@ impl Facts {
             births: BirthIndex::new(alloc),
             deaths: TimeIndex::new(alloc),
             spare: Undo::new(alloc),
+            tally: Tally::none(),
         }
+    }
+
+    /// How much is held. Cost: O(1).
+    pub fn tally(&self) -> Tally {
+        self.tally
     }
 
     /// The allocator that the facts grow by.
@@ -173,7 +183,7 @@ impl Facts {
         ensures kept { OnErr result (self.new ≡ self.old) }
         ensures back { rolled_back undo.new self.new ≡ rolled_back undo.old self.old }
     {
-        let tag = row.tag();
+        let (tag, bytes) = (row.tag(), row.body().len());
         if !self.chains.put(version, Fact::Row(row))? {
             return Ok(false);
         }
@@ -181,6 +191,7 @@ impl Facts {
             self.chains.forget(version, Part::Row);
             return Err(why);
         }
+        self.tally.add_row(bytes);
         self.note(undo, version, Part::Row)
     }
 
@@ -205,6 +216,7 @@ impl Facts {
             self.chains.forget(version, Part::End);
             return Err(why);
         }
+        self.tally.add_end();
         self.note(undo, version, Part::End)
     }
 
@@ -230,6 +242,7 @@ impl Facts {
         ensures { self.new ≡ facts_without self.old version.now part }
     {
         let lost = self.chains.forget(version, part);
+        self.tally.lose(&lost);
         forget_birth(&mut self.tags, &mut self.births, version, lost.tag);
         forget_death(&mut self.deaths, version, lost.died);
         self.tidy();

@@ -9,17 +9,18 @@ ghost use Rattle.hk_store.specs.Sweeps.{ArePruned, HasFewerSlots, IsSwept};
 
 use crate::chains::Chains;
 use crate::row_key::RowKey;
+use crate::tally::Tally;
 use hk_facts::Chain;
 use hk_slots::SlotMap;
 use hk_types::Time;
 
 impl Chains {
-    /// Drops each version whose end is known and at most `until`, chain by chain, as they are in memory. It takes no memory.
+    /// Drops each version whose end is known and at most `until`, chain by chain, as they are in memory, and counts them no more. It takes no memory.
     /// Cost: O(n + c · log n), n facts, c chains of which nothing is left.
-    pub(crate) fn sweep(&mut self, until: Time)
+    pub(crate) fn sweep(&mut self, tally: &mut Tally, until: Time)
         ensures { self.new ≡ pruned_facts self.old until }
     {
-        sweep_all(&mut self.chains, until);
+        sweep_all(&mut self.chains, tally, until);
     }
 
     /// A number that is at least that of the chains; more than that it does not promise.
@@ -28,20 +29,20 @@ impl Chains {
     }
 }
 
-fn sweep_all(chains: &mut SlotMap<RowKey, Chain>, until: Time)
+fn sweep_all(chains: &mut SlotMap<RowKey, Chain>, tally: &mut Tally, until: Time)
     requires { AreStored (map_of row_key_cmp chains.old) }
     ensures stored { AreStored (map_of row_key_cmp chains.new) }
     ensures swept { ArePruned (map_of row_key_cmp chains.old) (map_of row_key_cmp chains.new) until }
 {
     for slot in 0..chains.slot_bound() {
         if let Some(row) = chains.key_at(slot) {
-            sweep_row(chains, row, until);
+            sweep_row(chains, tally, row, until);
         }
     }
 }
 
 /// Drops the versions of a row that ended by a time, and the row's chain where nothing is left of it.
-fn sweep_row(chains: &mut SlotMap<RowKey, Chain>, row: RowKey, until: Time)
+fn sweep_row(chains: &mut SlotMap<RowKey, Chain>, tally: &mut Tally, row: RowKey, until: Time)
     requires own { AreOwn row_key_cmp chains.old }
     requires stored { AreStored (map_of row_key_cmp chains.old) }
     ensures own { AreOwn row_key_cmp chains.new }
@@ -52,6 +53,7 @@ fn sweep_row(chains: &mut SlotMap<RowKey, Chain>, row: RowKey, until: Time)
     let Some(chain) = chains.get_mut(row) else {
         return;
     };
+    tally.lose_until(chain, until);
     chain.drop_until(until);
     if chain.is_empty() {
         chains.remove(row);

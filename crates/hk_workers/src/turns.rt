@@ -7,6 +7,7 @@ use crate::writing::MOST_HELD;
 use hk_doors::Passes;
 use hk_link::{LinkState, NodeSide, PartsHost};
 use hk_session::{Ended, Host, Session, Step};
+use hk_wire::{LaterReply, LaterRequest, Reply, Request};
 use std::io::ErrorKind;
 use std::mem;
 
@@ -15,6 +16,9 @@ const MOST_READS: u32 = 16;
 
 /// A worker ends one connection in a round that has more pins than these, since it asks for the release of each.
 const FEW_PINS: usize = 16;
+
+/// How many pins of such a connection it asks for in a round at most, so that others have their turn between.
+const SOME_PINS: usize = 64;
 
 /// What a worker knows as a connection has its turn.
 #[derive(Clone, Copy)]
@@ -48,6 +52,24 @@ pub(crate) enum Turn {
     Moves,
     /// It is over.
     Over,
+}
+
+/// Asks for the release of some of a connection's pins, the last ones first, as the connection itself could. Returns false where one isn't
+/// released.
+fn release_some<H: NodeSide + Drop>(both: &mut PartsHost<'_, H>) -> bool
+    requires { H.ready both.old.inner }
+    ensures { H.ready both.new.inner }
+{
+    for _ in 0..SOME_PINS {
+        let Some(number) = both.last_pin() else {
+            return true;
+        };
+        let request = Request::Later(LaterRequest::Release { number });
+        let Reply::Later(LaterReply::Done { .. }) = both.answer_uncounted(request) else {
+            return false;
+        };
+    }
+    true
 }
 
 impl<'d, const LATEST: u8> Link<'d, LATEST> {
@@ -112,6 +134,7 @@ impl<'d, const LATEST: u8> Link<'d, LATEST> {
         match self.socket.read(&mut piece[begun..]) {
             Ok(0) => Some(self.end_input(&piece[..begun], out, host)),
             Ok(count) => {
+                self.meters.note_read(count as u64);
                 self.since = moment.now;
                 if self.reads_too_often(moment) {
                     return Some(Step::Ended(Ended::ReadFault));
@@ -178,7 +201,12 @@ impl<'d, const LATEST: u8> Link<'d, LATEST> {
         self.is_full = matches!(step, Step::Full);
         match step {
             Step::GoesOn | Step::Full => {}
-            Step::Ended(ended) => self.ended = Some(ended),
+            Step::Ended(ended) => {
+                if let Ended::Fault(fault) = ended {
+                    self.meters.note_refusal(fault.number());
+                }
+                self.ended = Some(ended);
+            }
             Step::Waits { t, milliseconds } => {
                 let number = t.number();
                 if milliseconds > 0 && number > readable {
@@ -198,8 +226,13 @@ impl<'d, const LATEST: u8> Link<'d, LATEST> {
         !moment.is_at_long_end && !self.rest.is_empty() && !self.is_full && !self.has_waited
     }
 
-    /// Writes what stands. Where the socket failed the connection ends.
+    /// Writes what stands, and counts what was written. Where the socket failed the connection ends.
     pub(crate) fn write(&mut self, now: u64) {
+        self.write_standing(now);
+        self.meters.note_written(self.unwritten.take_sent());
+    }
+
+    fn write_standing(&mut self, now: u64) {
         if self.is_cut {
             return;
         }
@@ -289,7 +322,10 @@ impl<'d, const LATEST: u8> Link<'d, LATEST> {
         for _ in 0..MOST_READS {
             match self.socket.read(piece) {
                 Ok(0) => return Turn::Over,
-                Ok(_count) => self.since = moment.now,
+                Ok(count) => {
+                    self.meters.note_read(count as u64);
+                    self.since = moment.now;
+                }
                 Err(error) if error.kind() == ErrorKind::WouldBlock => return Turn::Waits,
                 Err(_error) => return Turn::Over,
             }
@@ -345,15 +381,36 @@ impl<'d, const LATEST: u8> Link<'d, LATEST> {
                 return (self.unless_cut(turn), host);
             }
         }
+        self.end_session(moment, both, left)
+    }
+
+    /// What is done with the pins of a session that has ended: of many some in each round, and then the others.
+    fn end_session<H: NodeSide + Drop>(
+        &mut self,
+        moment: Moment,
+        both: PartsHost<'d, H>,
+        left: &mut Vec<LinkState<'d>>,
+    ) -> (Turn, H)
+        requires { H.ready both.inner }
+    {
         let (host, kept) = both.into_parts();
-        let has_many = kept.hold_count() > FEW_PINS;
-        if has_many && !moment.lets_go {
+        if kept.hold_count() <= FEW_PINS {
+            let (host, state) = PartsHost::new(host, kept).end();
+            self.let_go(state, left);
+            return (Turn::Again, host);
+        }
+        if !moment.lets_go {
             self.kept = Some(kept);
             return (Turn::Again, host);
         }
-        let (host, state) = PartsHost::new(host, kept).end();
+        let mut both = PartsHost::new(host, kept);
+        if release_some(&mut both) {
+            let (host, kept) = both.into_parts();
+            self.kept = Some(kept);
+            return (Turn::Freed, host);
+        }
+        let (host, state) = both.end();
         self.let_go(state, left);
-        let turn = if has_many { Turn::Freed } else { Turn::Again };
-        (turn, host)
+        (Turn::Freed, host)
     }
 }

@@ -6,4 +6,4 @@ pub loop-version-init : goal.loop-version-init
 loop-version-init c = dropped_none c.args.chains.now
 
 pub loop-version-preserved : goal.loop-version-preserved
-loop-version-preserved c = dropped_more c.args.chains.now c.loop-version.chains c.forget.new.self c.args.versions.now c.loop-version.version-index c.version-item.result c.version-item.is (omega arith) c.loop-version.invariant c.forget.ensures.left
+loop-version-preserved c = dropped_more c.args.chains.now c.loop-version.chains c.forget-lost.new.self c.args.versions.now c.loop-version.version-index c.version-item.result c.version-item.is (omega arith) c.loop-version.invariant c.forget-lost.ensures.left

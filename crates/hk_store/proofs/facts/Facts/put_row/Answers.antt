@@ -26,8 +26,8 @@ returns-in-Err-clause-kept c =
     let is = put_is a.chains c.put.new.self c.args.version.now (Row c.args.row) c.in_ok-put.ensures.ok in
     rw (← c.self.view_is) (taken_back a.chains c.put.new.self c.args.version.now (Row c.args.row) new is c.forget.new.self c.forget.ensures.left)
 
-pub invariant_of-self-in_default : goal.invariant_of-self-in_default
-invariant_of-self-in_default c =
+pub invariant_of-self-2 : goal.invariant_of-self-2
+invariant_of-self-2 c =
     let a = c.self.inside in
     let v = c.args.version.now in
     let new = OnTrue_at c.if-not-branch.false c.in_ok-put.ensures.new in

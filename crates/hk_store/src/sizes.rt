@@ -1,0 +1,93 @@
+//! How many bytes an answer would take, before anything of it is made.
+
+use crate::facts::Facts;
+use crate::row_key::RowKey;
+use hk_types::{Key, Refusal, Row, Table, Tag, Time, VersionKey};
+use std::alloc::Global;
+
+/// How many bytes a row has in a message beside its body, at most.
+const BESIDE_ROW: u64 = 14;
+
+/// How many bytes a version counts beside its row and its end: 19 of a message, and 128 for its place in memory; and how many its end.
+const BESIDE_VERSION: u64 = 147;
+
+const END: u64 = 8;
+
+/// How many bytes a row of an answer counts for its place in memory.
+const PLACE: u64 = 64;
+
+/// How many bytes a row has in a message, at most.
+fn row_bytes(row: Option<&Row>) -> u64 {
+    match row {
+        Some(row) => BESIDE_ROW.saturating_add(row.body().len() as u64),
+        None => 0,
+    }
+}
+
+/// How many bytes a row takes in an answer, at most: none where there is no row.
+fn answer_bytes(row: Option<&Row>) -> u64 {
+    match row_bytes(row) {
+        0 => 0,
+        bytes => bytes.saturating_add(PLACE),
+    }
+}
+
+impl Facts {
+    /// How many bytes all that is held takes as a fragment: those of a message, and 128 more for each row and end, at most. It
+    /// promises nothing. Cost: O(1).
+    pub fn bytes_of_all(&self) -> u64 {
+        let rows = self.tally.rows.saturating_mul(BESIDE_VERSION + BESIDE_ROW);
+        let ends = self.tally.ends.saturating_mul(BESIDE_VERSION + END);
+        rows.saturating_add(ends).saturating_add(self.tally.bytes)
+    }
+
+    /// How many bytes the rows of versions take in a fragment, with the versions, at most.
+    fn bytes_of_rows(&self, versions: &[VersionKey]) -> u64 {
+        let mut bytes = 0u64;
+        for version in versions {
+            let row = row_bytes(self.row_at(version));
+            bytes = bytes.saturating_add(BESIDE_VERSION).saturating_add(row);
+        }
+        bytes
+    }
+
+    /// How many bytes what is stated above a time takes as a fragment, at most. It promises nothing. The only refusal is `Memory`. Cost:
+    /// O((1 + k) · log n), k versions with a row or an end above the time, n facts.
+    pub fn bytes_above(&self, alloc: Global, base: Time) -> Result<u64, Refusal> {
+        let born = self.births.above(alloc, base)?;
+        let dead = self.deaths.above(alloc, base)?;
+        let ends = (dead.len() as u64).saturating_mul(BESIDE_VERSION + END);
+        Ok(self.bytes_of_rows(&born).saturating_add(ends))
+    }
+
+    /// How many bytes the rows of a table with keys from `low` to `high` that are visible at a time take in an answer, at most. It promises
+    /// nothing. Cost: O(log n + k · log n), k keys from low to high, n facts.
+    pub fn bytes_between(&self, table: Table, low: Key, high: Key, time: Time) -> u64 {
+        if high < low {
+            return 0;
+        }
+        let (first, last) = (RowKey::new(table, low), RowKey::new(table, high));
+        let mut bytes = 0u64;
+        for (_row, chain) in self.chains.chains.range(first..=last) {
+            bytes = bytes.saturating_add(answer_bytes(chain.at(time)));
+        }
+        bytes
+    }
+
+    /// How many bytes the rows of a table with a tag that are visible at a time take in an answer, at most. It promises nothing. The only
+    /// refusal is `Memory`. Cost: O(k · log n), k keys that have or had a row with the tag, n facts.
+    pub fn bytes_tagged(
+        &self,
+        alloc: Global,
+        table: Table,
+        tag: Tag,
+        time: Time,
+    ) -> Result<u64, Refusal> {
+        let keys = self.tags.keys(alloc, table, tag)?;
+        let mut bytes = 0u64;
+        for key in keys.iter() {
+            bytes = bytes.saturating_add(answer_bytes(self.shown_at(table, *key, time)));
+        }
+        Ok(bytes)
+    }
+}
