@@ -289,6 +289,18 @@ def fields_of_ready(horizon, readable):
     return later(74, [("horizon", u64(horizon)), ("readable", u64(readable))])
 
 
+def fields_of_stats(metrics):
+    """metrics: (name, label, value)"""
+    fields = [("count of metrics", u32(len(metrics)))]
+    for name, label, value in metrics:
+        fields += [("name", u16(name)), ("label", u16(label)), ("value", u64(value))]
+    return later(75, fields)
+
+
+def fields_of_tables(tables):
+    return later(76, [("count of tables", u32(len(tables)))] + [("table", u16(table)) for table in tables])
+
+
 def fields_of_later_refused(number, first=0, second=0):
     return later(72, [("number", u8(number)), ("first", u64(first)), ("second", u64(second))])
 

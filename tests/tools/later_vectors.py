@@ -32,7 +32,8 @@ def value_of_rows(rows):
 # ---------------------------------------------------------------- values and their bytes
 
 def requests():
-    found = [("streams", {"kind": "streams"}, of.later(48)), ("more", {"kind": "more"}, of.later(52))]
+    found = [("streams", {"kind": "streams"}, of.later(48)), ("more", {"kind": "more"}, of.later(52)), ("stats", {"kind": "stats"}, of.later(60)),
+             ("tables", {"kind": "tables"}, of.later(61))]
     for query in (["get", 1, 5], ["get", 65535, MOST], ["range", 1, 9, 0], ["tag", 1, 2 ** 32 - 1], ["count", 9]):
         found.append((f"latest {query}", {"kind": "latest", "query": query}, of.later(49, QUERIES[query[0]](*query[1:]))))
     for words in ((0, 1, 0, MOST, 1), (LAST, 65535, 9, 0, 2 ** 32 - 1)):
@@ -73,6 +74,27 @@ def streams_replies():
         yield f"streams: {name}", value, of.fields_of_told(**told), lines
 
 
+# the metrics that docs/FORMATS.md names, by the words of a line, and those that have a label
+WORDS = dict(enumerate(("rows ends body_bytes operations guarded failed pins seconds budget reserved memory open opened most_open bytes_read bytes_written requests refusals "
+                        "failed_accepts program keys").split(), 1))
+LABELLED = (9, 10, 12, 13, 14, 17, 18)
+METRICS = [(1, 0, 40), (2, 0, 12), (4, 0, LAST), (5, 0, 1), (6, 0, 0), (9, 0, MOST), (9, 1, 0), (12, 0, 3), (12, 4, 2), (17, 20, 12), (17, 60, 3), (18, 90, 1), (20, 0, 1_002_003),
+           (21, 0, 7), (60_000, 5, 1), (2 ** 16 - 1, 2 ** 16 - 1, MOST)]
+
+
+def line_of_metric(name, label, value):
+    word = WORDS.get(name)
+    return f"metric {name} {label} {value}" if word is None else f"{word} {label} {value}" if name in LABELLED else f"{word} {value}"
+
+
+def stats_replies():
+    for name, metrics in (("none", []), ("one", METRICS[:1]), ("each", [(name, 0, name) for name in WORDS]), ("labels", METRICS)):
+        yield (f"stats: {name}", {"kind": "stats", "metrics": [list(it) for it in metrics]}, of.fields_of_stats(metrics),
+               [f"stats {len(metrics)}", *(line_of_metric(*it) for it in metrics)])
+    for tables in ([], [0], [1, 2, 2 ** 16 - 1]):
+        yield f"tables {tables}", {"kind": "tables", "tables": tables}, of.fields_of_tables(tables), [f"tables {len(tables)}", *(f"table {table}" for table in tables)]
+
+
 def replies():
     rows = [(5, 9, b"\x41"), (6, 8, b""), (MOST, 2 ** 32 - 1, b"\0\xff")]
     lines = ["5 9 41", "6 8 -", f"{MOST} {2 ** 32 - 1} 00ff"]
@@ -98,6 +120,7 @@ def replies():
               for ops, new in ((1, 0), (2, 65_536), (LAST, MOST))]
     found += [(f"ready {low} to {high}", {"kind": "ready", "horizon": low, "readable": high}, of.fields_of_ready(low, high), [f"ready horizon {low} readable {high}"])
               for low, high in ((0, 0), (2, 3), (LAST, LAST))]
+    found += stats_replies()
     found += refusals()
     return [{"name": name, "value": value, "bytes": of.spelled(fields).hex(), "lines": told} for name, value, fields, told in found]
 
@@ -171,7 +194,7 @@ def request_faults():
         ("a number that is cut", of.spelled(of.later(57, [("number", b"\1")])), 10), ("no count of what is fed", of.framed(b"\2\x3a"), 10),
         ("time of a wait", of.patched(wait, "time", OVER), 6), ("a wait above the most", of.patched(wait, "milliseconds", of.u32(600_001)), 6),
         ("the longest wait", of.patched(wait, "milliseconds", b"\xff" * 4), 6), ("a wait without milliseconds", of.spelled(wait[:-1]), 10),
-        ("a wait and a byte", of.spelled(wait + [("more", b"\0")]), 10),
+        ("a wait and a byte", of.spelled(wait + [("more", b"\0")]), 10), ("stats with a byte", of.framed(b"\2\x3c\0"), 10), ("tables with a byte", of.framed(b"\2\x3d\0"), 10),
         ("count of what is fed", of.patched(feed, "count", of.u32(65_537)), 8), ("items that are not there", of.patched(feed, "count", of.u32(3)), 10),
         ("items that are not counted", of.patched(feed, "count", of.u32(1)), 10)]
     cases += [(f"feed: {name}", of.spelled(of.fields_of_feed([of.patched(entry, field, text)])), number) for name, field, text, number in (
@@ -188,7 +211,7 @@ def reply_faults():
     told = of.fields_of_told(1, 3, 9, 2, [(3, 3, 0, 0), (0, 4, 1, 2)])
     page, rows = of.fields_of_page([(5, 9, b"a"), (6, 9, b"b")], 1), [("kind of answer", b"\2")]
     part, refused, fed = of.fields_of_part(FACTS, 1), of.fields_of_later_refused(47), of.fields_of_fed(2, 1)
-    ready = of.fields_of_ready(2, 3)
+    ready, stats, tables = of.fields_of_ready(2, 3), of.fields_of_stats([(1, 0, 5), (9, 0, 6), (9, 1, 7)]), of.fields_of_tables([1, 2])
     cases = heads_of_frames(64, 48) + [
         ("done with 0", of.spelled(of.later(64, [("operations", of.u64(0))])), 6), ("done above the most", of.spelled(of.later(64, [("operations", OVER)])), 6),
         ("horizon above readable", of.patched(told, "horizon", of.u64(4)), 6), ("readable above the last time", of.patched(told, "readable", OVER), 6),
@@ -204,6 +227,12 @@ def reply_faults():
         ("fed and a byte", of.spelled(fed + [("more", b"\0")]), 10), ("hold 0", of.spelled(of.fields_of_held(0, 1)), 6), ("time of a hold", of.spelled(of.fields_of_held(1, LAST + 1)), 6),
         ("ready from above the resolved time", of.patched(ready, "horizon", of.u64(4)), 6), ("ready to above the last time", of.patched(ready, "readable", OVER), 6),
         ("ready without a resolved time", of.spelled(ready[:-1]), 10), ("ready and a byte", of.spelled(ready + [("more", b"\0")]), 10),
+        ("metrics of one name that fall", of.patched(stats, "label", of.u16(0), 2), 7), ("names of metrics that fall", of.patched(stats, "name", of.u16(1), 2), 7),
+        ("a label that rises under a name that falls", of.spelled(of.fields_of_stats([(9, 0, 6), (8, 9, 7)])), 7),
+        ("metrics that are not there", of.ended_by(stats, "count of metrics", b"\xff" * 4), 10), ("a metric without a value", of.spelled(stats[:-1]), 10),
+        ("a byte behind metrics", of.spelled(stats + [("more", b"\0")]), 10), ("one table twice", of.patched(tables, "table", of.u16(1), 1), 7),
+        ("tables that fall", of.patched(tables, "table", of.u16(0), 1), 7), ("tables that are not there", of.ended_by(tables, "count of tables", b"\xff" * 4), 10),
+        ("half a table", of.spelled(tables[:-1] + [("table", b"\0")]), 10), ("a byte behind tables", of.spelled(tables + [("more", b"\0")]), 10),
         ("47 with a field", of.spelled(of.fields_of_later_refused(47, 1)), 6), ("46 with a second field", of.spelled(of.fields_of_later_refused(46, 1, 1)), 6),
         ("a field that is not 0", of.spelled(of.fields_of_later_refused(1, 1)), 6), ("a base above the last time", of.spelled(of.fields_of_later_refused(22, LAST + 1, 1)), 6)]
     cases += [(f"refusal {number}", of.patched(refused, "number", of.u8(number)), 6) for number in (0, 11, 19, 27, 30, 36, 39, 48, 89, 91, 255)]
@@ -211,4 +240,4 @@ def reply_faults():
     cases += [(f"last part: {name}", data, number) for name, data, number in part_faults(lambda fields: of.later(69, fields + of.fields_of_head()))
               if "count" not in name]
     cases += [(f"last part, head: {name}", data, number) for name, data, number in head_faults(lambda fields: of.later(69, of.fields_of_facts(FACTS) + fields))]
-    return listed(cases + cuts("streams", of.spelled(told)) + cuts("a page", of.spelled(page)))
+    return listed(cases + cuts("streams", of.spelled(told)) + cuts("a page", of.spelled(page)) + cuts("stats", of.spelled(stats)) + cuts("tables", of.spelled(tables)))

@@ -5,6 +5,7 @@ mod head;
 mod link_reporter;
 mod listening;
 mod memory;
+mod metering;
 mod moment;
 mod notice;
 mod serve;

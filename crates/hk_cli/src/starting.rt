@@ -80,7 +80,7 @@ impl<'n, 'b, J: NodeName, N: Wait + Drop, R: Threads + Wait + Sync> Own<'n, 'b, 
         host: NodeHost<'n, J, N, R>,
         budget: &'b PartsBudget,
     ) -> Own<'n, 'b, J, N, R> {
-        let kept = LinkState::new(alloc, budget);
+        let kept = LinkState::new(alloc, budget, None);
         Own {
             host: PartsHost::new(host, kept),
             last: None,

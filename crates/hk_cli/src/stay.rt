@@ -7,6 +7,7 @@ use crate::head::Heads;
 use crate::link_reporter::{LinkReporter, Reports};
 use crate::listening::{many_listener_of, most_files, port_of, socket_listener};
 use crate::memory::share_of_memory;
+use crate::metering::meters_of;
 use crate::notice::Notice;
 use crate::serve::{budget_of, new_list, stop_of, tell_unproved};
 use crate::starting::begin;
@@ -14,11 +15,11 @@ use crate::texts::{Backlog, MOST_WAITING, Target, Text, TextWriter, write_texts}
 use crossbeam_channel::{Sender, bounded};
 use hk_cli_calls::{Level, OtherPort, OutputForm, PartsLimit, Stay};
 use hk_cli_commands::{Output, Stop};
-use hk_net::{Door, Limits, NetFault, PartsBudget, serve_forever};
+use hk_net::{Door, Limits, Meters, NetFault, PartsBudget, serve_forever};
 use hk_node::{NewList, Node, NodeName, ReaderSeat, start};
 use hk_types::{Config, Refusal};
 use std::alloc::{AllocError, Global};
-use std::fs::Files;
+use std::fs::{File, Files};
 use std::io::Write;
 use std::marker::Brand;
 use std::net::{Net, SocketAddr, TcpListener, TcpStream};
@@ -333,6 +334,7 @@ fn serve_doors<
     seats: Vec<ReaderSeat<J>>,
     in_both: bool,
     limits: Limits,
+    meters: &'d Meters<'d>,
     reports: Option<Reports<J>>,
     texts: Sender<Text>,
     backlog: &Backlog,
@@ -341,7 +343,7 @@ fn serve_doors<
     let mut words = TextWriter::new(rt, alloc, Target::Words, &texts, backlog);
     let mut output = Output::new(alloc, &mut lines, &mut words);
     let mut reporter = LinkReporter::new(alloc, &mut output, &heads, level, reports);
-    serve_forever(rt, alloc, doors, seats, in_both, limits, &mut reporter)
+    serve_forever(rt, alloc, doors, seats, in_both, limits, meters, &mut reporter)
 }
 
 /// The same, and writes what is printed: this thread alone waits where nobody reads it.
@@ -358,6 +360,7 @@ fn serve_writing<
     stay: &Stay<'_>,
     doors: Vec<Door<'d, J, N>>,
     seats: Vec<ReaderSeat<J>>,
+    meters: &'d Meters<'d>,
     reports: Option<Reports<J>>,
     output: &mut Output<'_, W, E>,
 ) -> Result<(), NetFault> {
@@ -376,8 +379,8 @@ fn serve_writing<
             let serving = scope
                 .spawn(move || {
                     serve_doors(
-                        rt, alloc, heads, level, doors, seats, in_both, limits, reports, texts,
-                        backlog,
+                        rt, alloc, heads, level, doors, seats, in_both, limits, meters, reports,
+                        texts, backlog,
                     )
                 })
                 .ok();
@@ -446,7 +449,7 @@ fn stay_list<J: NodeName + Send + Sync, R, W: Write, E: Write>(
     output: &mut Output<'_, W, E>,
 ) -> Result<(), Stop>
 where
-    R: Net<Listener = TcpListener, Stream = TcpStream> + Clock + Files + Alloc<A = Global>,
+    R: Net<Listener = TcpListener, Stream = TcpStream> + Clock + Files<File = File> + Alloc<A = Global>,
     R: Threads + Wait + Sync,
     requires { list ≡ (J.book, J.kind) }
 {
@@ -469,8 +472,10 @@ where
     let budgets = Budgets::new(alloc, parts_bytes.unwrap_or(PLAIN_BYTES), stay)?;
     let doors = doors_of(alloc, &node, stay, &listeners, &budgets)?;
     let doors = furnished(alloc, doors, stay)?;
+    let readers = budgets.reading.as_ref();
+    let meters = meters_of(rt, &budgets.others, readers, doors.len())?;
     tell_start(alloc, config, stay, parts_bytes, output)?;
-    serve_writing(rt, alloc, stay, doors, seats, reports, output).map_err(stop_of)
+    serve_writing(rt, alloc, stay, doors, seats, &meters, reports, output).map_err(stop_of)
 }
 
 /// Starts a node of a log, and serves connections to it without an end: a place is free again when its connection ends. As `node` it
@@ -492,7 +497,7 @@ pub fn run_stay<R, W: Write, E: Write>(
     errors: &mut E,
 ) -> u8
 where
-    R: Net<Listener = TcpListener, Stream = TcpStream> + Clock + Files + Alloc<A = Global>,
+    R: Net<Listener = TcpListener, Stream = TcpStream> + Clock + Files<File = File> + Alloc<A = Global>,
     R: Threads + Wait + Sync,
     ensures { result ≤ 1 }
 {

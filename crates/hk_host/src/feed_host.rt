@@ -12,7 +12,7 @@ use crate::node_host::NodeHost;
 use hk_delta::Fragment;
 use hk_link::NodeSide;
 use hk_model::{Answer, Front, Page, Query, StreamsTold};
-use hk_node::{Hold, NodeName, ReaderSeat};
+use hk_node::{Hold, NodeName, NodeSizes, ReaderSeat};
 use hk_session::Host;
 use hk_types::{Key, Refusal, Table, Time};
 use hk_wire::{Reply, Request};
@@ -115,6 +115,14 @@ impl<'a, J: NodeName, N: Wait + Drop, R: Threads + Wait + Sync> NodeSide for Fee
 
     fn cut(&mut self, base: Time) -> Result<Fragment, Refusal> {
         self.inner.cut(base)
+    }
+
+    fn sizes(&mut self) -> Result<NodeSizes, Refusal> {
+        self.inner.sizes()
+    }
+
+    fn tables(&mut self) -> Result<Vec<Table>, Refusal> {
+        self.inner.tables()
     }
 
     fn keep_within(&mut self, room: u64) {

@@ -61,7 +61,7 @@ fn serve_link<J: NodeName, N: Wait + Drop, R: Threads + Wait + Sync>(
     let mut reader = Counted::new(&stream);
     let mut writer = Counted::new(&stream);
     let host = NodeHost::new(rt, alloc, node, seat);
-    let kept = budget.map(|budget| LinkState::new(alloc, budget));
+    let kept = budget.map(|budget| LinkState::new(alloc, budget, None));
     let (ended, _host, _kept) = serve_host(
         alloc,
         kept,

@@ -23,7 +23,7 @@ use hk_delta::{Fragment, fragment_of};
 use hk_link::NodeSide;
 use hk_log::Item;
 use hk_model::{Answer, Front, Page, Query, StreamsTold};
-use hk_node::{Hold, Node, NodeName, ReaderSeat, Receipt};
+use hk_node::{Hold, Node, NodeName, NodeSizes, ReaderSeat, Receipt};
 use hk_session::Host;
 use hk_types::{Key, Refusal, Table, Time};
 use hk_wire::{LaterReply, Reply, Request};
@@ -342,6 +342,14 @@ impl<'a, J: NodeName, N: Wait + Drop, R: Threads + Wait + Sync> NodeSide for Nod
 
     fn cut(&mut self, base: Time) -> Result<Fragment, Refusal> {
         self.reads.cut(base)
+    }
+
+    fn sizes(&mut self) -> Result<NodeSizes, Refusal> {
+        self.reads.sizes()
+    }
+
+    fn tables(&mut self) -> Result<Vec<Table>, Refusal> {
+        self.reads.tables()
     }
 
     fn keep_within(&mut self, room: u64) {

@@ -13,7 +13,7 @@ ghost use Rattle.hk_host.specs.Replying.{IsOrOutOfMemory, MayOnlyRead, front_rep
 use hk_delta::Fragment;
 use hk_link::NodeSide;
 use hk_model::{Answer, Front, Page, Query, StreamsTold};
-use hk_node::{Hold, NodeName, ReaderSeat, Receipt};
+use hk_node::{Hold, NodeName, NodeSizes, ReaderSeat, Receipt};
 use hk_session::Host;
 use hk_types::{Config, FormFault, Key, Refusal, Table, Time};
 use hk_wire::{Reply, Request};
@@ -199,6 +199,14 @@ impl<J: NodeName> NodeSide for SeatHost<J> {
         } else {
             self.seat.delta_since(base)
         }
+    }
+
+    fn sizes(&mut self) -> Result<NodeSizes, Refusal> {
+        self.seat.sizes()
+    }
+
+    fn tables(&mut self) -> Result<Vec<Table>, Refusal> {
+        self.seat.tables()
     }
 
     fn keep_within(&mut self, room: u64) {

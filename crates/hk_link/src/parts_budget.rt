@@ -176,7 +176,7 @@ impl PartsBudget {
     pub fn reserved(&self) -> u64
         ensures { result ≤ self.now }
     {
-        self.most().saturating_sub(self.bytes.table.shared.peek(0))
+        self.most().saturating_sub(self.bytes.left())
     }
 }
 

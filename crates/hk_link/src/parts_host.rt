@@ -415,8 +415,8 @@ impl<'a, H: NodeSide + Drop> PartsHost<'a, H> {
         }
     }
 
-    /// Answers a request of either version.
-    fn answer_either(&mut self, request: Request) -> Reply
+    /// Answers a request of either version that no peer sent: it isn't counted.
+    pub fn answer_uncounted(&mut self, request: Request) -> Reply
         requires ready { H.ready self.old.inner }
         ensures told { MayReplyBoth H.side H.may self.old request result self.new }
         ensures ready { H.ready self.new.inner }
@@ -437,7 +437,7 @@ impl<'a, H: NodeSide + Drop> Host for PartsHost<'a, H> {
 
     fn answer(&mut self, request: Request) -> Reply {
         let kind = kind_of(&request);
-        let reply = self.answer_either(request);
+        let reply = self.answer_uncounted(request);
         self.kept.count(kind, refusal_of(&reply));
         reply
     }

@@ -9,5 +9,5 @@ pub use hk_host::{
     FeedHost, LinkEvent, NetFault, NodeHost, SeatHost, Watch, read_on_seat, serve_links,
     serve_on_seat, serve_parts, serve_plain,
 };
-pub use hk_link::{LinkState, NodeSide, PartsBudget, PartsHost, given_law};
+pub use hk_link::{LinkState, Meters, NodeSide, PartsBudget, PartsHost, given_law};
 pub use hk_workers::{Door, Limits, serve_forever};

@@ -46,6 +46,7 @@ fn accept_next<J: NodeName, N: Wait + Drop, R: Wait + Clock, const LATEST: u8>(
     teller.turn_to(place, false);
     match door.listener.accept() {
         Ok((accepted, address)) => {
+            shop.meters.note_opened(number);
             teller.tell(rt, LinkEvent::Opened(address));
             let arrival = Arrival::Opened {
                 accepted,
@@ -54,10 +55,11 @@ fn accept_next<J: NodeName, N: Wait + Drop, R: Wait + Clock, const LATEST: u8>(
             };
             if !leave(rt, shop, shop.short_worker(place), arrival) {
                 teller.tell(rt, LinkEvent::Ended(Ended::Memory));
-                places.give(rt, place);
+                shop.give_back(rt, number, place);
             }
         }
         Err(_error) => {
+            shop.meters.note_failed_accept();
             teller.tell(rt, LinkEvent::NotAccepted);
             places.give(rt, place);
             thread::sleep(rt, Duration::from_millis(ACCEPT_PAUSE));

@@ -5,7 +5,7 @@ use crate::sockets::Socket;
 use crate::waiting::Awaited;
 use crate::writing::{MOST_HELD, Unwritten};
 use hk_doors::FrameWatch;
-use hk_link::LinkState;
+use hk_link::{LinkState, Meters};
 use hk_session::{Ended, Session};
 use std::alloc::Global;
 
@@ -36,6 +36,8 @@ pub(crate) struct Readiness {
 #[derive(Drop)]
 pub(crate) struct Link<'d, const LATEST: u8> {
     pub(crate) alloc: Global,
+    /// Where it is counted what it does.
+    pub(crate) meters: &'d Meters<'d>,
     pub(crate) socket: Socket,
     /// The number of its door, and its place among the connections of all doors.
     pub(crate) door: usize,
@@ -82,9 +84,11 @@ impl<'d, const LATEST: u8> Link<'d, LATEST> {
         door: usize,
         place: usize,
         now: u64,
+        meters: &'d Meters<'d>,
     ) -> Link<'d, LATEST> {
         Link {
             alloc,
+            meters,
             socket,
             door,
             place,

@@ -54,6 +54,7 @@ impl<
         if let Ok(time) = self.rt.monotonic() {
             let now = u64::try_from(time.as_millis()).unwrap_or(0);
             self.worker.now = self.worker.now.max(now);
+            self.shop.meters.note_time(self.worker.now / 1_000);
         }
     }
 
@@ -211,14 +212,18 @@ impl<
             Way::Open(_) => self.worker.left.pop(),
             Way::Feeding(_) | Way::Reading => None,
         };
-        left.unwrap_or_else(|| LinkState::new(self.worker.alloc, door.budget))
+        left.unwrap_or_else(|| {
+            LinkState::new(self.worker.alloc, door.budget, Some(self.shop.meters))
+        })
     }
 
     /// Takes in a connection that was accepted. Where that fails it is closed.
     fn open(&mut self, accepted: Accepted, door: usize, place: usize) {
-        let (alloc, now) = (self.worker.alloc, self.worker.now);
+        let (alloc, now, meters) = (self.worker.alloc, self.worker.now, self.shop.meters);
         let link = match accepted.into_socket() {
-            Ok(socket) => Box::new(alloc, Link::new(alloc, socket, door, place, now)).ok(),
+            Ok(socket) => {
+                Box::new(alloc, Link::new(alloc, socket, door, place, now, meters)).ok()
+            }
             Err(_error) => None,
         };
         let Some(mut link) = link else {

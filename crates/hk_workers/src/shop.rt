@@ -4,6 +4,7 @@ use crate::arrivals::Inbox;
 use crate::doors::{Door, Limits};
 use crate::places::Places;
 use hk_host::Bell;
+use hk_link::Meters;
 use hk_node::NodeName;
 use std::sync::Wait;
 use std::sync::atomic::{AtomicU64, Ordering};
@@ -19,6 +20,8 @@ pub(crate) struct Shop<'d, J: NodeName, N: Wait + Drop, const LATEST: u8> {
     /// What wakes each of them.
     pub(crate) bell: Bell,
     pub(crate) limits: Limits,
+    /// Where it is counted what connections do.
+    pub(crate) meters: &'d Meters<'d>,
     /// Which workers have a thread, a bit for each.
     pub(crate) running: AtomicU64,
 }
@@ -82,6 +85,7 @@ impl<'d, J: NodeName, N: Wait + Drop, const LATEST: u8> Shop<'d, J, N, LATEST> {
 
     /// Gives back the slot of a connection of a door.
     pub(crate) fn give_back<R: Wait>(&self, rt: &R, door: usize, place: usize) {
+        self.meters.note_ended(door);
         if let Some(places) = self.places.get(door) {
             places.give(rt, place);
         }

@@ -12,6 +12,7 @@ use crate::shop::Shop;
 use crate::worker::{PIECE, WAKER};
 use crossbeam_channel::{Sender, bounded};
 use hk_host::{Bell, EVENTS, LinkEvent, NetFault, Teller, Watch, hand_on};
+use hk_link::Meters;
 use hk_node::{NodeName, ReaderSeat};
 use mio::{Events, Poll, Token, Waker};
 use std::alloc::{AllocError, Global};
@@ -213,6 +214,7 @@ fn serve_in<
     doors: Vec<Door<'d, J, N>>,
     seats: Vec<ReaderSeat<J>>,
     limits: Limits,
+    meters: &'d Meters<'d>,
     watch: &mut T,
 ) -> Result<(), NetFault> {
     let mut seats = seats;
@@ -231,6 +233,7 @@ fn serve_in<
         inboxes,
         bell,
         limits,
+        meters,
         running: AtomicU64::new(0),
     };
     serve_shop(rt, alloc, &shop, polls, seats, watch)
@@ -248,7 +251,7 @@ fn serve_in<
 /// have. When a
 /// session ends, the release of each of its pins is asked for; a pin whose release is refused then (`Damaged`, `NodeFull` or
 /// `Memory`) stays active, and is handed to the next connection of the worker that may release pins. An Await takes a place in a list, and
-/// no thread.
+/// no thread. What connections ask, how many there are and what they read and write is counted by `meters`, which are for as many doors.
 ///
 /// `watch` gets an event for each connection that opens and ends, for each change that is refused, and through a door that wants it for each
 /// that takes effect, with the slot of the connection, in the order in which that is seen; connections wait where it is slow. A
@@ -268,11 +271,12 @@ pub fn serve_forever<
     seats: Vec<ReaderSeat<J>>,
     in_both: bool,
     limits: Limits,
+    meters: &'d Meters<'d>,
     watch: &mut T,
 ) -> Result<(), NetFault> {
     if in_both {
-        serve_in::<J, N, R, T, 2>(rt, alloc, doors, seats, limits, watch)
+        serve_in::<J, N, R, T, 2>(rt, alloc, doors, seats, limits, meters, watch)
     } else {
-        serve_in::<J, N, R, T, 1>(rt, alloc, doors, seats, limits, watch)
+        serve_in::<J, N, R, T, 1>(rt, alloc, doors, seats, limits, meters, watch)
     }
 }

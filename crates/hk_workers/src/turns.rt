@@ -65,7 +65,7 @@ fn release_some<H: NodeSide + Drop>(both: &mut PartsHost<'_, H>) -> bool
             return true;
         };
         let request = Request::Later(LaterRequest::Release { number });
-        let Reply::Later(LaterReply::Done { .. }) = both.answer(request) else {
+        let Reply::Later(LaterReply::Done { .. }) = both.answer_uncounted(request) else {
             return false;
         };
     }
@@ -134,6 +134,7 @@ impl<'d, const LATEST: u8> Link<'d, LATEST> {
         match self.socket.read(&mut piece[begun..]) {
             Ok(0) => Some(self.end_input(&piece[..begun], out, host)),
             Ok(count) => {
+                self.meters.note_read(count as u64);
                 self.since = moment.now;
                 if self.reads_too_often(moment) {
                     return Some(Step::Ended(Ended::ReadFault));
@@ -200,7 +201,12 @@ impl<'d, const LATEST: u8> Link<'d, LATEST> {
         self.is_full = matches!(step, Step::Full);
         match step {
             Step::GoesOn | Step::Full => {}
-            Step::Ended(ended) => self.ended = Some(ended),
+            Step::Ended(ended) => {
+                if let Ended::Fault(fault) = ended {
+                    self.meters.note_refusal(fault.number());
+                }
+                self.ended = Some(ended);
+            }
             Step::Waits { t, milliseconds } => {
                 let number = t.number();
                 if milliseconds > 0 && number > readable {
@@ -220,8 +226,13 @@ impl<'d, const LATEST: u8> Link<'d, LATEST> {
         !moment.is_at_long_end && !self.rest.is_empty() && !self.is_full && !self.has_waited
     }
 
-    /// Writes what stands. Where the socket failed the connection ends.
+    /// Writes what stands, and counts what was written. Where the socket failed the connection ends.
     pub(crate) fn write(&mut self, now: u64) {
+        self.write_standing(now);
+        self.meters.note_written(self.unwritten.take_sent());
+    }
+
+    fn write_standing(&mut self, now: u64) {
         if self.is_cut {
             return;
         }
@@ -311,7 +322,10 @@ impl<'d, const LATEST: u8> Link<'d, LATEST> {
         for _ in 0..MOST_READS {
             match self.socket.read(piece) {
                 Ok(0) => return Turn::Over,
-                Ok(_count) => self.since = moment.now,
+                Ok(count) => {
+                    self.meters.note_read(count as u64);
+                    self.since = moment.now;
+                }
                 Err(error) if error.kind() == ErrorKind::WouldBlock => return Turn::Waits,
                 Err(_error) => return Turn::Over,
             }

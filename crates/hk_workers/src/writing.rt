@@ -25,6 +25,17 @@ enum Wrote {
     Failed,
 }
 
+impl Wrote {
+    /// How many bytes were written, of so many; none that are known where it failed.
+    fn count(self, all: usize) -> usize {
+        match self {
+            Wrote::All => all,
+            Wrote::Some(count) | Wrote::Enough(count) => count,
+            Wrote::Failed => 0,
+        }
+    }
+}
+
 /// Writes until all is written, the socket takes no more, or it was much.
 fn write_some(socket: &Socket, bytes: &[u8]) -> Wrote {
     let mut done = 0usize;
@@ -58,6 +69,8 @@ pub(crate) struct Unwritten {
     alloc: Global,
     bytes: Vec<u8>,
     written: usize,
+    /// How many bytes the socket took that weren't counted yet.
+    sent: u64,
     /// The socket would have taken more.
     is_writable: bool,
 }
@@ -68,8 +81,21 @@ impl Unwritten {
             alloc,
             bytes: Vec::new(alloc),
             written: 0,
+            sent: 0,
             is_writable: true,
         }
+    }
+
+    /// How many bytes the socket took since this was asked last.
+    pub(crate) fn take_sent(&mut self) -> u64 {
+        mem::replace(&mut self.sent, 0)
+    }
+
+    /// Writes bytes, and counts how many the socket took.
+    fn send(&mut self, socket: &Socket, bytes: &[u8]) -> Wrote {
+        let wrote = write_some(socket, bytes);
+        self.sent = self.sent.saturating_add(wrote.count(bytes.len()) as u64);
+        wrote
     }
 
     /// How many bytes stand.
@@ -123,10 +149,12 @@ impl Unwritten {
         if self.is_empty() {
             return true;
         }
-        let wrote = match self.bytes.get(self.written..) {
-            Some(rest) => write_some(socket, rest),
+        let standing = mem::replace(&mut self.bytes, Vec::new(self.alloc));
+        let wrote = match standing.get(self.written..) {
+            Some(rest) => self.send(socket, rest),
             None => Wrote::All,
         };
+        self.bytes = standing;
         self.note(wrote)
     }
 
@@ -166,7 +194,7 @@ impl Unwritten {
 
     /// Writes what a step added where nothing stands. What is long isn't copied: it stands where it is.
     fn put_first(&mut self, socket: &Socket, out: &mut Vec<u8>) -> bool {
-        let wrote = write_some(socket, out);
+        let wrote = self.send(socket, out);
         match wrote {
             Wrote::All => true,
             Wrote::Failed => false,
