@@ -62,7 +62,7 @@ module _ {S K H : Type 0} (beside : S → K → H) (goes : Goes S) (goes_on : Go
       → (last : H) × Turn (MayAmong goes_on may) old last before after has_waited ready out × goes_on last new
   turn_among old host new before after has_waited ready out g turn =
       let h = first_goes old host new turn.answered turn.replies g (new, as_among host new turn.answered turn.replies turn.answers, is.stays new) in
-      (h.0, record { answered = turn.answered; order = turn.order; waited = turn.waited; replies = turn.replies; answers = h.1; said = turn.said; kept = turn.kept; told = turn.told; few = turn.few; same = turn.same }, h.2)
+      (h.0, record { answered = turn.answered; order = turn.order; waited = turn.waited; replies = turn.replies; answers = h.1; said = turn.said; kept = turn.kept; more = turn.more; added = turn.added; told = turn.told; few = turn.few; same = turn.same }, h.2)
 
   turns_among : (old host new : H) (before after : SessionValue) (has_waited : Bool) (ready out : List ℕ) (step : Step) → goes_on old host → Turns may host new before after has_waited ready out step
       → (last : H) × Turns (MayAmong goes_on may) old last before after has_waited ready out step × goes_on last new
@@ -72,7 +72,7 @@ module _ {S K H : Type 0} (beside : S → K → H) (goes : Goes S) (goes_on : Go
   turns_among old host new before after has_waited ready out (steps.Waits t milliseconds) g h =
       let k = turn_among old host new before after has_waited ready out g h.0 in (k.0, (k.1, h.1, h.2, h.3), k.2)
   turns_among old host new before after has_waited ready out (steps.Ended (Fault f)) g h =
-      let k = turn_among old host new before after has_waited ready h.0 g h.1 in (k.0, (h.0, k.1, h.2, h.3, h.4), k.2)
+      let k = turn_among old host new before after has_waited ready h.0 g h.1 in (k.0, (h.0, k.1, h.2, h.3, h.4, h.5), k.2)
   turns_among old host new before after has_waited ready out (steps.Ended Memory) g h = let k = turn_among old host new before after has_waited ready out g h.0 in (k.0, (k.1, h.1), k.2)
   turns_among old host new before after has_waited ready out (steps.Ended Clean) g h = absurd h
   turns_among old host new before after has_waited ready out (steps.Ended ReadFault) g h = absurd h

@@ -5,6 +5,7 @@ pub mod NeverCut
 pub mod NoTruncatedValue
 pub mod NoTruncatedRequest
 pub mod ChangeReplies
+pub mod KeptReplies
 pub mod SessionTurns
 pub mod SessionStands
 pub mod SpokenTurns

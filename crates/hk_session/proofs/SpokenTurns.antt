@@ -1,15 +1,16 @@
 -- What a session wrote that writes what is appended.
-use Rattle.std.proofs.Common.{◌≡◌, ◌⊎◌, ℕ, ◌<◌, ◌≤◌, true, List, [], ◌∷◌, ◌++◌, length, Option, Some, None, option_to_list, Result, Ok, Err, refl, sym, ap, subst, ◌∙◌, append_assoc, append-nil, arith, inl, inr}
+use Rattle.std.proofs.Common.{◌≡◌, ◌⊎◌, ℕ, ◌<◌, ◌≤◌, true, List, [], ◌∷◌, ◌++◌, length, take, drop, Option, Some, None, option_to_list, Result, Ok, Err, refl, sym, ap, subst, ◌∙◌, append_assoc, append-nil, arith, inl, inr}
 use Rattle.std.specs.Io.KnownBytes.{Appends}
 use Rattle.std.proofs.KnownBytes.{Appends-nil, Appends-trans}
-use Rattle.std.proofs.lemmas.List.{length-append}
+use Rattle.std.proofs.Math.Seq.{take-nil}
+use Rattle.std.proofs.lemmas.List.{length-append, take-append-drop}
 use Rattle.hk_types.specs.declared.faults.FormFault.{FormFault}
 use Rattle.hk_types.specs.declared.faults.FormFault.TheVariants.{Truncated}
 use Rattle.hk_wire.specs.declared.reply.Reply.{Reply}
 use Rattle.hk_wire.specs.Requests.{ReadsRequests}
 use Rattle.hk_session.specs.Said.{fault_reply, refused_text}
 use Rattle.hk_session.specs.Transcript.{May, replies_bytes, fault_of, IsProperPrefixOf, IsCut, Ends, SessionStep, Writes, Refuses, Concludes, IsMidway}
-use Rattle.hk_session.specs.Sessions.{SessionValue, AreFew, Stands, IsResting, IsAtFault, Turn, Turns, EndedSo, Closes}
+use Rattle.hk_session.specs.Sessions.{SessionValue, begun_bytes, AreFew, Stands, IsResting, IsAtFault, Turn, Turns, EndedSo, Closes}
 use Rattle.hk_session.specs.Serving.{SpokeSo}
 use Rattle.hk_session.specs.declared.ended.Ended.{Ended}
 use Rattle.hk_session.specs.declared.ended.Ended.TheVariants.{Clean, Fault, Memory, ReadFault, WriteFault}
@@ -17,6 +18,7 @@ use Rattle.hk_session.specs.declared.step.Step.{Step}
 use Rattle.hk_session.specs.declared.step.Step.TheVariants as steps
 use Rattle.hk_session.proofs.SaidReplies.{faults_told}
 use Rattle.hk_session.proofs.Transcripts.{replies_bytes-both, one_said, fault_said}
+use Rattle.hk_session.proofs.KeptReplies.{nothing_begun, nothing_kept}
 use Rattle.hk_session.proofs.SessionTurns.{left_to_do, less_said, less_answered}
 use Rattle.hk_session.proofs.SessionStands.{stands_turned, stands_begins, ended_memory, ended_fault, fault_not_cut, all_told, all_read}
 
@@ -35,24 +37,34 @@ no_first : {X : Type 0} (xs ys : List X) → xs ++ ys ≡ [] → xs ≡ []
 no_first [] ys e = refl
 no_first (x ∷ xs) ys e = absurd cc
 
+-- a front of what was appended behind a part of a reply, is a front of the replies behind what was there before
+proper_behind : (begun part out : List ℕ) → IsProperPrefixOf part out → IsProperPrefixOf (begun ++ part) (begun ++ out)
+proper_behind begun part out h =
+    ((h.0.0, append_assoc begun part h.0.0 ∙ ap (λ (t : List ℕ). begun ++ t) h.0.1), omega (arith, h.1, length-append begun part, length-append begun out))
+
 -- the replies are cut off in those that were appended
-cut_replies : (text part out : List ℕ) (before all said first replies more kept : List Reply) → all ≡ before ++ first → text ≡ replies_bytes before → first ++ replies ≡ more ++ kept → out ≡ replies_bytes more
-    → AreFew [] (first ++ replies) → IsProperPrefixOf part out → IsCut (text ++ part) (all ++ replies)
-cut_replies text part out before all said first replies more kept order told both is (inl none) front =
-    let nothing : more ≡ [] = no_first more kept (sym both ∙ none) in
-    absurd (none_before part (subst (IsProperPrefixOf part) (is ∙ ap replies_bytes nothing) front))
-cut_replies text part out before all said first replies more kept order told both is (inr few) front =
-    let longer : IsProperPrefixOf part (replies_bytes more ++ replies_bytes kept) = longer_front part (replies_bytes more) (replies_bytes kept) (subst (IsProperPrefixOf part) is front) in
-    let same : replies_bytes more ++ replies_bytes kept ≡ replies_bytes (few.0 ++ few.1 ∷ []) = sym (replies_bytes-both more kept) ∙ ap replies_bytes (sym both ∙ few.2) in
+cut_replies : (text part out begun more : List ℕ) (before all said first replies kept : List Reply) (n : ℕ) → all ≡ before ++ first → text ≡ replies_bytes before ++ begun → first ++ replies ≡ said ++ kept
+    → out ≡ [] ++ more → begun ++ more ≡ replies_bytes said ++ take n (replies_bytes kept) → AreFew [] (first ++ replies) → IsProperPrefixOf part out → IsCut (text ++ part) (all ++ replies)
+cut_replies text part out begun more before all said first replies kept n order told both is behind (inl none) front =
+    let no_said : said ≡ [] = no_first said kept (sym both ∙ none) in
+    let no_kept : kept ≡ [] = ap (λ (l : List Reply). l ++ kept) (sym no_said) ∙ sym both ∙ none in
+    let nothing : begun ++ more ≡ [] = behind ∙ ap (λ (l : List Reply). replies_bytes l ++ take n (replies_bytes kept)) no_said ∙ ap (λ (l : List Reply). take n (replies_bytes l)) no_kept ∙ take-nil n in
+    absurd (omega (arith, front.1, ap length is, ap length nothing, length-append begun more))
+cut_replies text part out begun more before all said first replies kept n order told both is behind (inr few) front =
+    let proper = proper_behind begun part more (subst (IsProperPrefixOf part) is front) in
+    let longer = longer_front (begun ++ part) (begun ++ more) (drop n (replies_bytes kept)) proper in
+    let same : (begun ++ more) ++ drop n (replies_bytes kept) ≡ replies_bytes (few.0 ++ few.1 ∷ []) =
+    ap (λ (l : List ℕ). l ++ drop n (replies_bytes kept)) behind ∙ append_assoc (replies_bytes said) (take n (replies_bytes kept)) (drop n (replies_bytes kept))
+    ∙ ap (λ (l : List ℕ). replies_bytes said ++ l) (take-append-drop n (replies_bytes kept)) ∙ sym (replies_bytes-both said kept) ∙ ap replies_bytes (sym both ∙ few.2) in
     record {
       said = before;
       held = few.0;
       last = few.1;
       order = ap (λ (l : List Reply). l ++ replies) order ∙ append_assoc before first replies ∙ ap (λ (l : List Reply). before ++ l) few.2;
       few = few.3 (omega arith);
-      part = part;
-      front = subst (IsProperPrefixOf part) same longer;
-      wrote = ap (λ (t : List ℕ). t ++ part) told;
+      part = begun ++ part;
+      front = subst (IsProperPrefixOf (begun ++ part)) same longer;
+      wrote = ap (λ (t : List ℕ). t ++ part) told ∙ append_assoc (replies_bytes before) begun part;
     }
 
 cut_turn : {H : Type 0} (latest : ℕ) (may : May H) (a b c : H) (bytes text part out : List ℕ) (s t : SessionValue) → Stands latest may a b bytes text s → Turn may b c s t true [] out → IsProperPrefixOf part out → EndedSo latest may a c bytes (text ++ part) WriteFault
@@ -63,39 +75,41 @@ cut_turn latest may a b c bytes text part out s t h turn front =
       stands.replies,
       stands.answers,
       inl (
-        stands_begins latest may a c bytes (text ++ replies_bytes turn.said) t stands,
-        cut_replies text part out h.said h.replies turn.said (option_to_list s.kept) turn.replies turn.said (option_to_list t.kept) h.order h.told turn.kept turn.told turn.few front,
+        stands_begins latest may a c bytes (text ++ turn.more) t stands,
+        cut_replies text part out (begun_bytes s) turn.more h.said h.replies turn.said (option_to_list s.kept) turn.replies (option_to_list t.kept) t.begun h.order h.told turn.kept turn.added turn.told turn.few front,
       ),
     )
 
 -- the fault that follows was said, and is cut off with what was appended before it
 cut_fault : {H : Type 0} (latest : ℕ) (may : May H) (a b c : H) (bytes text part front out : List ℕ) (s t : SessionValue) (f : FormFault) → Stands latest may a b bytes text s → Turn may b c s t true [] front → IsAtFault t f
-    → out ≡ front ++ refused_text f → length front ≤ 65536 → IsProperPrefixOf part out → EndedSo latest may a c bytes (text ++ part) WriteFault
+    → out ≡ front ++ refused_text f → length front ≤ 65536 → s.begun ≡ 0 → IsProperPrefixOf part out → EndedSo latest may a c bytes (text ++ part) WriteFault
 unfolding stands_turned
-cut_fault latest may a b c bytes text part front out s t f h turn at told most proper =
+cut_fault latest may a b c bytes text part front out s t f h turn at told most fresh proper =
     let stands = stands_turned latest may a b c bytes text s t true [] front h turn in
     let last = fault_reply f in
     let all : stands.replies ≡ h.said ++ turn.said = stands.order ∙ ap (λ (k : Option Reply). (h.said ++ turn.said) ++ option_to_list k) at.1 ∙ append-nil (h.said ++ turn.said) in
+    let none : begun_bytes s ≡ [] = nothing_begun s fresh in
+    let said : front ≡ replies_bytes turn.said = turn.added ∙ ap (λ (l : List ℕ). l ++ turn.more) (sym none) ∙ turn.told ∙ ap (λ (l : List ℕ). replies_bytes turn.said ++ l) (nothing_kept t at.1) ∙ append-nil (replies_bytes turn.said) in
     let bytes_of : replies_bytes (turn.said ++ last ∷ []) ≡ out =
-    replies_bytes-both turn.said (last ∷ []) ∙ ap (λ (l : List ℕ). replies_bytes turn.said ++ l) (one_said last ∙ faults_told f) ∙ ap (λ (l : List ℕ). l ++ refused_text f) (sym turn.told) ∙ sym told in
+    replies_bytes-both turn.said (last ∷ []) ∙ ap (λ (l : List ℕ). replies_bytes turn.said ++ l) (one_said last ∙ faults_told f) ∙ ap (λ (l : List ℕ). l ++ refused_text f) (sym said) ∙ sym told in
     let cut : IsCut (text ++ part) (stands.replies ++ last ∷ []) =
     record {
       said = h.said;
       held = turn.said;
       last = last;
       order = ap (λ (l : List Reply). l ++ last ∷ []) all ∙ append_assoc h.said turn.said (last ∷ []);
-      few = subst (λ (l : List ℕ). length l ≤ 65536) turn.told most;
+      few = subst (λ (l : List ℕ). length l ≤ 65536) said most;
       part = part;
       front = subst (IsProperPrefixOf part) (sym bytes_of) proper;
-      wrote = ap (λ (l : List ℕ). l ++ part) h.told;
+      wrote = ap (λ (l : List ℕ). l ++ part) (h.told ∙ ap (λ (l : List ℕ). replies_bytes h.said ++ l) none ∙ append-nil (replies_bytes h.said));
     } in
-    (stands.answered, stands.replies, stands.answers, inr (Err f, f, all_read latest may a c bytes (text ++ replies_bytes turn.said) t (Err f) stands at.0 at.2, refl, cut))
+    (stands.answered, stands.replies, stands.answers, inr (Err f, f, all_read latest may a c bytes (text ++ turn.more) t (Err f) stands at.0 at.2, refl, cut))
 
 pub spoke_cut : {H : Type 0} (latest : ℕ) (may : May H) (a b c : H) (bytes text part out : List ℕ) (s t : SessionValue) (step : Step) → Stands latest may a b bytes text s → Turns may b c s t true [] out step → IsProperPrefixOf part out → EndedSo latest may a c bytes (text ++ part) WriteFault
 spoke_cut latest may a b c bytes text part out s t steps.GoesOn h turns front = cut_turn latest may a b c bytes text part out s t h turns.0 front
 spoke_cut latest may a b c bytes text part out s t steps.Full h turns front = cut_turn latest may a b c bytes text part out s t h turns.0 front
 spoke_cut latest may a b c bytes text part out s t (steps.Waits time milliseconds) h turns front = cut_turn latest may a b c bytes text part out s t h turns.0 front
-spoke_cut latest may a b c bytes text part out s t (steps.Ended (Fault f)) h turns front = cut_fault latest may a b c bytes text part turns.0 out s t f h turns.1 turns.2 turns.3 turns.4 front
+spoke_cut latest may a b c bytes text part out s t (steps.Ended (Fault f)) h turns front = cut_fault latest may a b c bytes text part turns.0 out s t f h turns.1 turns.2 turns.3 turns.4 turns.5 front
 spoke_cut latest may a b c bytes text part out s t (steps.Ended Memory) h turns front = cut_turn latest may a b c bytes text part out s t h turns.0 front
 spoke_cut latest may a b c bytes text part out s t (steps.Ended Clean) h turns front = absurd turns
 spoke_cut latest may a b c bytes text part out s t (steps.Ended ReadFault) h turns front = absurd turns
@@ -106,7 +120,7 @@ spoke_cut latest may a b c bytes text part out s t (steps.Ended WriteFault) h tu
 -- what was appended, where nothing was there before
 pub spoke_turn : {H : Type 0} (latest : ℕ) (may : May H) (a b c : H) (bytes text out : List ℕ) (s t : SessionValue) → Stands latest may a b bytes text s → Turn may b c s t true [] out → Stands latest may a c bytes (text ++ out) t
 spoke_turn latest may a b c bytes text out s t h turn =
-    subst (λ (l : List ℕ). Stands latest may a c bytes (text ++ l) t) (sym turn.told) (stands_turned latest may a b c bytes text s t true [] out h turn)
+    subst (λ (l : List ℕ). Stands latest may a c bytes (text ++ l) t) (sym turn.added) (stands_turned latest may a b c bytes text s t true [] out h turn)
 
 pub spoke_ended : {H : Type 0} (latest : ℕ) (may : May H) (a b c : H) (bytes text out : List ℕ) (s t : SessionValue) (e : Ended) → Stands latest may a b bytes text s → Turns may b c s t true [] out (steps.Ended e) → EndedSo latest may a c bytes (text ++ out) e × IsMidway e
 spoke_ended latest may a b c bytes text out s t (Fault f) h turns =

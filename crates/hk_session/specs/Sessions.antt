@@ -1,5 +1,5 @@
 -- A session between two reads, and what is done for it there.
-use Rattle.std.specs.Prelude.{◌≡◌, ◌≢◌, ◌⊎◌, ◌≤◌, ℕ, Bool, true, false, List, [], ◌∷◌, ◌++◌, length, Option, Some, None, option_to_list, Result, Ok, Err, IfOk, refl}
+use Rattle.std.specs.Prelude.{◌≡◌, ◌≢◌, ◌⊎◌, ◌<◌, ◌≤◌, ◌+◌, ℕ, Bool, true, false, List, [], ◌∷◌, ◌++◌, length, take, Option, Some, None, option_to_list, Result, Ok, Err, IfOk, refl}
 use Rattle.std.specs.Coded.{Coded, code_by, coded×, coded_list, coded_option, coded_result, coded_ℕ}
 use Rattle.std.specs.List.{AllByRecursion}
 use Rattle.hk_types.specs.declared.faults.FormFault.{FormFault}
@@ -15,17 +15,29 @@ use Rattle.hk_session.specs.declared.ended.Ended.TheVariants.{Clean, Fault, Memo
 use Rattle.hk_session.specs.declared.step.Step.{Step}
 use Rattle.hk_session.specs.declared.step.Step.TheVariants as steps
 
--- the value of a `Session`: the requests that wait for an answer, what a feeder holds behind them, and a reply that waits for
--- memory
+-- the value of a `Session`: the requests that wait for an answer, what a feeder holds behind them, a reply that isn't appended
+-- whole yet, and how many of its bytes are
 pub record SessionValue : Type 0 where
   pub requests : List Request
   pub left : Result (List ℕ) FormFault
   pub kept : Option Reply
+  pub begun : ℕ
 
 abbrev pub session_code : Coded Request → Coded FormFault → Coded Reply → Coded SessionValue
 session_code request fault reply =
-    code_by (List Request × (Result (List ℕ) FormFault × Option Reply)) (coded× (coded_list request) (coded× (coded_result (coded_list coded_ℕ) fault) (coded_option reply)))
-    (λ s. (s.requests, (s.left, s.kept))) (λ p. record { requests = p.0; left = p.1.0; kept = p.1.1 }) (λ _. refl)
+    code_by (List Request × (Result (List ℕ) FormFault × (Option Reply × ℕ))) (coded× (coded_list request) (coded× (coded_result (coded_list coded_ℕ) fault) (coded× (coded_option reply) coded_ℕ)))
+    (λ s. (s.requests, (s.left, (s.kept, s.begun)))) (λ p. record { requests = p.0; left = p.1.0; kept = p.1.1.0; begun = p.1.1.1 }) (λ _. refl)
+
+-- what is written for the reply that is kept, and what of that is appended
+abbrev pub kept_bytes : SessionValue → List ℕ
+kept_bytes s = replies_bytes (option_to_list s.kept)
+
+abbrev pub begun_bytes : SessionValue → List ℕ
+begun_bytes s = take s.begun (kept_bytes s)
+
+-- of a reply that was begun so many bytes aren't appended yet
+abbrev pub IsStanding : SessionValue → ℕ → Type 0
+IsStanding s n = ((s.begun ≡ 0) × (n ≡ 0)) ⊎ (s.begun + n ≡ length (kept_bytes s))
 
 -- what a request waits for, where it is an `Await`: a time, and for how many milliseconds
 abbrev pub awaited : Request → Option (ℕ × ℕ)
@@ -53,7 +65,7 @@ AreFew ready replies =
     (replies ≡ []) ⊎ ((front : List Reply) × (last : Reply) × (replies ≡ front ++ last ∷ []) × (length ready ≤ 65536 → length (ready ++ replies_bytes front) ≤ 65536))
 
 -- Where a session stands, which began with the host so, took these bytes and appended this text: it answered the first of the
--- requests that the bytes encode, and the others wait; the text has the replies, but for one that waits for memory.
+-- requests that the bytes encode, and the others wait; the text has the replies, and what is appended of one that is kept.
 pub record Stands {H : Type 0} (latest : ℕ) (may : May H) (start now : H) (bytes text : List ℕ) (s : SessionValue) : Type 0 where
   pub answered : List Request
   pub reads : ReadsRequests latest bytes (answered ++ s.requests) s.left
@@ -61,7 +73,7 @@ pub record Stands {H : Type 0} (latest : ℕ) (may : May H) (start now : H) (byt
   pub answers : Answers may start answered replies now
   pub said : List Reply
   pub order : replies ≡ said ++ option_to_list s.kept
-  pub told : text ≡ replies_bytes said
+  pub told : text ≡ replies_bytes said ++ begun_bytes s
 
 -- all requests are answered, and no fault follows them
 abbrev pub IsResting : SessionValue → Type 0
@@ -78,9 +90,22 @@ pub record ReadIn (latest : ℕ) (before after : SessionValue) (piece : List ℕ
   pub behind : after.requests ≡ before.requests ++ new
   pub reads : (bytes : List ℕ) (requests : List Request) → ReadsRequests latest bytes requests before.left → ReadsRequests latest (bytes ++ piece) (requests ++ new) after.left
   pub same : after.kept ≡ before.kept
+  pub begun : after.begun ≡ before.begun
 
--- Some of the requests were answered, the first ones, and their replies appended to what was ready, behind one that waited for
--- memory; the last may wait for it now. An `Await` was answered only as the first, where it was waited for.
+-- The next piece of the reply that is kept was appended to what was ready: all that is left of it, or more than 65,536 bytes. Of one
+-- that was begun there was something left.
+pub record AppendsKept (before after : SessionValue) (ready out : List ℕ) : Type 0 where
+  pub said : List Reply
+  pub kept : option_to_list before.kept ≡ said ++ option_to_list after.kept
+  pub more : List ℕ
+  pub added : out ≡ ready ++ more
+  pub told : begun_bytes before ++ more ≡ replies_bytes said ++ begun_bytes after
+  pub same : after ≡ record before { kept = after.kept; begun = after.begun }
+  pub piece : (after.kept ≡ None) ⊎ (65536 < length more)
+  pub left : 0 < before.begun → 0 < length more
+
+-- Some of the requests were answered, the first ones, and their replies appended to what was ready, behind what was left of one
+-- that was kept; the last may be kept now, and appended in part. An `Await` was answered only as the first, where it was waited for.
 pub record Turn {H : Type 0} (may : May H) (old new : H) (before after : SessionValue) (has_waited : Bool) (ready out : List ℕ) : Type 0 where
   pub answered : List Request
   pub order : before.requests ≡ answered ++ after.requests
@@ -89,7 +114,9 @@ pub record Turn {H : Type 0} (may : May H) (old new : H) (before after : Session
   pub answers : Answers may old answered replies new
   pub said : List Reply
   pub kept : option_to_list before.kept ++ replies ≡ said ++ option_to_list after.kept
-  pub told : out ≡ ready ++ replies_bytes said
+  pub more : List ℕ
+  pub added : out ≡ ready ++ more
+  pub told : begun_bytes before ++ more ≡ replies_bytes said ++ begun_bytes after
   pub few : AreFew ready (option_to_list before.kept ++ replies)
   pub same : after.left ≡ before.left
 
@@ -102,9 +129,9 @@ Turns may old new before after has_waited ready out steps.Full = Turn may old ne
 -- the first of the others is an `Await`, and isn't one that was waited for
 Turns may old new before after has_waited ready out (steps.Waits t milliseconds) =
     (turn : Turn may old new before after has_waited ready out) × (after.kept ≡ None) × (first_awaited after.requests ≡ Some (t, milliseconds)) × (has_waited ≡ true → turn.answered ≢ [])
--- all requests were answered, and it was said which fault follows them
+-- all requests were answered, and it was said which fault follows them, by a call before which no reply was appended in part
 Turns may old new before after has_waited ready out (steps.Ended (Fault f)) =
-    (front : List ℕ) × Turn may old new before after has_waited ready front × IsAtFault after f × (out ≡ front ++ refused_text f) × (length front ≤ 65536)
+    (front : List ℕ) × Turn may old new before after has_waited ready front × IsAtFault after f × (out ≡ front ++ refused_text f) × (length front ≤ 65536) × (before.begun ≡ 0)
 -- memory ran out, and there is nothing to write
 Turns may old new before after has_waited ready out (steps.Ended Memory) = Turn may old new before after has_waited ready out × (out ≡ [])
 Turns may old new before after has_waited ready out (steps.Ended Clean) = ⊥

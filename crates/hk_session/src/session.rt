@@ -1,17 +1,16 @@
 //! A session by its steps: what is done between two reads.
 
-ghost use Rattle.std.specs.Prelude.{◌≡◌, ◌≢◌, ◌⊎◌, ◌≤◌, ◌++◌, ℕ, List, [], ◌∷◌, false, length, Ok, Some, None, IfSome, IfNone, OnOk, OnErr};
-ghost use Rattle.std.specs.Prelude.{option_to_list};
+ghost use Rattle.std.specs.Prelude.{◌≡◌, ◌≢◌, ◌⊎◌, ◌≤◌, ◌++◌, ℕ, List, [], ◌∷◌, false, length, nat_lt, Ok, Some, None, IfSome, IfNone, OnOk, OnErr};
 ghost use Rattle.hk_session.specs.Said.{refused_text};
-ghost use Rattle.hk_session.specs.Transcript.{fault_of, replies_bytes};
-ghost use Rattle.hk_session.specs.Sessions.{Closes, Continues, HasNoNext, IsWithoutMemory, Pauses, ReadIn, Takes, TakesIn, Turns, awaited, first_awaited};
+ghost use Rattle.hk_session.specs.Transcript.{fault_of};
+ghost use Rattle.hk_session.specs.Sessions.{AppendsKept, Closes, Continues, HasNoNext, IsStanding, IsWithoutMemory, Pauses, ReadIn, Takes, TakesIn, Turns, awaited, first_awaited};
 
 use crate::ended::Ended;
 use crate::host::Host;
-use crate::sending::put;
+use crate::sending::put_piece;
 use crate::step::Step;
 use hk_types::{FormFault, Refusal, Time};
-use hk_wire::{LaterRequest, Reply, Request, RequestFeeder};
+use hk_wire::{LaterRequest, Place, Reply, Request, RequestFeeder, encode_reply};
 use std::alloc::{AllocError, Global};
 use std::collections::VecDeque;
 use std::marker::Model;
@@ -21,7 +20,7 @@ use std::mem;
 const MOST_READY: usize = 65_536;
 
 /// A session between two reads: the requests that it read and didn't answer, less than a request behind them or the fault
-/// that follows, and a reply for which there was no memory.
+/// that follows, and a reply that isn't appended whole, since it is long or there was no memory for it.
 #[derive(Drop)]
 pub struct Session<const LATEST: u8> {
     alloc: Global,
@@ -29,6 +28,7 @@ pub struct Session<const LATEST: u8> {
     fault: Option<FormFault>,
     waiting: VecDeque<Request>,
     kept: Option<Reply>,
+    place: Place,
 }
 
 impl<const LATEST: u8> Model for Session<LATEST> {
@@ -37,15 +37,16 @@ impl<const LATEST: u8> Model for Session<LATEST> {
     ghost use Rattle.hk_types.specs.contracts.faults.FormFault as form_fault;
     ghost use Rattle.hk_wire.specs.contracts.request.Request as request;
     ghost use Rattle.hk_wire.specs.contracts.reply.Reply as reply;
+    ghost use Rattle.hk_session.specs.Said.{IsKeptAt};
     ghost use Rattle.hk_session.specs.Sessions.{SessionValue, session_code};
 
     ghost Value = { SessionValue };
 
     ghost coded = { session_code request.the_row.coded form_fault.the_row.coded reply.the_row.coded };
 
-    ghost view = { λ s. record { requests = s.waiting.items; left = s.feeder; kept = s.kept } };
+    ghost view = { λ s. record { requests = s.waiting.items; left = s.feeder; kept = s.kept; begun = s.place.bytes } };
 
-    ghost invariant = { λ s. s.fault ≡ fault_met s.feeder };
+    ghost invariant = { λ s. (s.fault ≡ fault_met s.feeder) × IsKeptAt s.kept s.place };
 }
 
 /// Reads the next piece of the stream behind the requests that are there, and returns the fault that follows them, if one
@@ -72,7 +73,10 @@ fn refuse(fault: FormFault, out: &mut Vec<u8>) -> Result<(), AllocError>
     ensures ok { OnOk result (out.new.items ≡ out.old.items ++ refused_text fault) }
     ensures err { OnErr result (out.new.items ≡ out.old.items) }
 {
-    put(&Reply::Refused(Refusal::Form(fault)), out)
+    match encode_reply(&Reply::Refused(Refusal::Form(fault)), out) {
+        Ok(()) => Ok(()),
+        Err(_refusal) => Err(AllocError),
+    }
 }
 
 /// What comes where memory ran out: what is there has to be written first, or the session ends.
@@ -89,7 +93,7 @@ fn without_memory(out: &[u8]) -> Step
 impl<const LATEST: u8> Session<LATEST> {
     /// A session that took nothing.
     pub fn new(alloc: Global) -> Session<LATEST>
-        ensures { result ≡ record { requests = []; left = Ok []; kept = None } }
+        ensures { result ≡ record { requests = []; left = Ok []; kept = None; begun = 0 } }
     {
         Session {
             alloc,
@@ -97,6 +101,7 @@ impl<const LATEST: u8> Session<LATEST> {
             fault: None,
             waiting: VecDeque::new(alloc),
             kept: None,
+            place: Place::start(),
         }
     }
 
@@ -120,24 +125,49 @@ impl<const LATEST: u8> Session<LATEST> {
         Ok(())
     }
 
-    /// Appends the reply that is kept. Where memory runs out it is kept further.
+    /// Whether a reply was begun, and isn't appended whole.
+    fn has_begun(&self) -> bool
+        ensures { result ≡ nat_lt 0 self.now.begun }
+    {
+        self.place.bytes > 0
+    }
+
+    /// How many bytes of a reply that was begun are not appended yet: 0 where none was begun. Cost: O(1).
+    pub fn standing(&self) -> u64
+        ensures { IsStanding self.now result }
+    {
+        if self.has_begun() {
+            self.place.left as u64
+        } else {
+            0
+        }
+    }
+
+    /// Appends the next piece of the reply that is kept: all that is left of it, and it is kept no longer; or more than 65,536
+    /// bytes. Where memory runs out nothing changes.
     fn append_kept(&mut self, out: &mut Vec<u8>) -> Result<(), AllocError>
-        ensures ok { OnOk result (out.new.items ≡ out.old.items ++ replies_bytes (option_to_list self.old.kept)) }
-        ensures none { OnOk result (self.new ≡ record self.old { kept = None }) }
+        ensures ok { OnOk result (AppendsKept self.old self.new out.old.items out.new.items) }
         ensures err { OnErr result ((out.new.items ≡ out.old.items) × (self.new ≡ self.old)) }
     {
-        if let Some(reply) = &self.kept {
-            put(reply, out)?;
+        let Some(reply) = &self.kept else {
+            return Ok(());
+        };
+        match put_piece(reply, self.place, out)? {
+            Some(next) => self.place = next,
+            None => {
+                self.kept = None;
+                self.place = Place::start();
+            }
         }
-        self.kept = None;
         Ok(())
     }
 
-    /// Keeps a reply that is not appended yet.
+    /// Keeps a reply of which nothing is appended yet.
     fn keep(&mut self, reply: Reply)
-        ensures { self.new ≡ record self.old { kept = Some reply } }
+        ensures { self.new ≡ record self.old { kept = Some reply; begun = 0 } }
     {
         self.kept = Some(reply);
+        self.place = Place::start();
     }
 
     /// What the next request waits for, where it is an `Await`.
@@ -202,10 +232,11 @@ impl<const LATEST: u8> Session<LATEST> {
     {
         let mut waited = has_waited;
         'requests: loop {
+            let begun = self.has_begun();
             if self.append_kept(out).is_err() {
                 return without_memory(out);
             }
-            if out.len() > MOST_READY {
+            if begun || out.len() > MOST_READY {
                 return Step::Full;
             }
             let Some(request) = self.next(waited) else {
@@ -222,14 +253,18 @@ impl<const LATEST: u8> Session<LATEST> {
     /// bytes (`Full`), or the next request is an `Await` (`Waits`). That one is answered by the next call with `has_waited`,
     /// and at once; no other call answers it, so a call in between may bring more of the stream. What isn't answered is kept.
     ///
+    /// A long reply is appended in pieces of more than 65,536 bytes, as `encode_piece` adds them, one by each call, and the
+    /// session keeps it until then: a call that found it begun appends the next piece, and answers no request (`Full`). So no
+    /// second copy of a long reply is made, where the caller writes what is there before the next call.
+    ///
     /// `Ended` with a fault: it follows the requests, and its `Refused` is appended behind their replies. Where memory runs
-    /// out for a reply, the reply is kept, and appended by the next call, which doesn't ask the host again: `Full`, where
+    /// out for a reply or a piece, it is kept, and appended by the next call, which doesn't ask the host again: `Full`, where
     /// something is there to be written, else `Ended` with `Memory`. That comes also where memory runs out for the piece:
     /// then nothing happened, and the piece isn't taken. A call after the end ends it in the same way again, and appends the
     /// `Refused` again: a caller makes none.
     ///
-    /// The host has to be ready (`Host::ready`), and is left ready. Cost: that of the answers, a copy of each reply, and a
-    /// pass over the piece and over the requests that waited.
+    /// The host has to be ready (`Host::ready`), and is left ready. Cost: that of the answers, what is appended, and of each
+    /// reply two passes that test and count it; and a pass over the piece and over the requests that waited.
     pub fn take<H: Host>(
         &mut self,
         piece: &[u8],

@@ -8,7 +8,8 @@ use hk_types::Time;
 pub enum Step {
     /// All requests that were read are answered: it goes on with the next piece.
     GoesOn,
-    /// More than 65,536 bytes are there to be written, or some, and there was no memory for more: it goes on when they are.
+    /// More than 65,536 bytes are there to be written, or the last of a long reply, or some, and there was no memory for more: it
+    /// goes on when they are.
     Full,
     /// The next request is an `Await` of this time, for so many milliseconds: it goes on when that was waited for.
     Waits { t: Time, milliseconds: u32 },

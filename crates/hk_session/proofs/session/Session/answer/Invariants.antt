@@ -1,4 +1,4 @@
-use Rattle.std.proofs.Common.{length}
+use Rattle.std.proofs.Common.{◌≡◌, length}
 use Rattle.hk_session.proofs.SessionTurns.{TurnSoFar}
 use Rattle.hk_session.proofs.session.Session.answer.Given as goal
 
@@ -6,6 +6,7 @@ abbrev pub invariant-requests : goal.invariant-requests
 invariant-requests g l =
     record {
       so_far : TurnSoFar g.H.Host.may l.fn.host l.host l.fn.self l.self l.fn.has_waited l.waited l.fn.out.items l.out.items;
+      begun : l.self.begun ≡ l.fn.self.begun;
       ready : g.H.Host.ready l.host;
     }
 

@@ -5,5 +5,5 @@ use Rattle.hk_session.proofs.session.Session.pause.Goals as goal
 
 pub returns-in_default-fault : goal.returns-in_default-fault
 returns-in_default-fault g c =
-    let held = open_left c.self.inside.feeder c.self.inside.fault c.self.invariant (ap is_some c.in_default-fault.is) in
+    let held = open_left c.self.inside.feeder c.self.inside.fault c.self.invariant.0 (ap is_some c.in_default-fault.is) in
     (refl, sym c.in_default.ensures, (held.0, ap (λ (v : SessionValue). v.left) (sym c.self.view_is) ∙ held.1))
