@@ -129,14 +129,6 @@ impl<'a, J: NodeName, N: Wait + Drop, R: Threads + Wait + Sync> NodeSide for Fee
         self.inner.keep_within(room);
     }
 
-    fn is_latest_above(&mut self, query: &Query) -> bool {
-        self.inner.is_latest_above(query)
-    }
-
-    fn is_cut_above(&mut self, base: Time) -> bool {
-        self.inner.is_cut_above(base)
-    }
-
     fn hold(&mut self, time: Time) -> Result<Hold, (Option<Hold>, Refusal)> {
         self.inner.reads.hold(time)
     }

@@ -356,14 +356,6 @@ impl<'a, J: NodeName, N: Wait + Drop, R: Threads + Wait + Sync> NodeSide for Nod
         self.reads.keep_within(room);
     }
 
-    fn is_latest_above(&mut self, query: &Query) -> bool {
-        self.reads.is_latest_above(query)
-    }
-
-    fn is_cut_above(&mut self, base: Time) -> bool {
-        self.reads.is_cut_above(base)
-    }
-
     fn hold(&mut self, time: Time) -> Result<Hold, (Option<Hold>, Refusal)> {
         hold_on(self.rt, self.node, &mut self.reads, self.teller, time)
     }

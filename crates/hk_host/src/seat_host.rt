@@ -213,14 +213,6 @@ impl<J: NodeName> NodeSide for SeatHost<J> {
         self.seat.keep_within(room);
     }
 
-    fn is_latest_above(&mut self, query: &Query) -> bool {
-        self.seat.is_latest_above(query)
-    }
-
-    fn is_cut_above(&mut self, base: Time) -> bool {
-        self.seat.is_cut_above(base)
-    }
-
     fn hold(&mut self, _time: Time) -> Result<Hold, (Option<Hold>, Refusal)> {
         let _known = self.seat.seen();
         Err((None, Refusal::Form(FormFault::BadKind)))

@@ -1,4 +1,3 @@
-mod Budgets
 mod WholeGiven
 mod LettingGo
 mod LinkHolds
@@ -6,3 +5,4 @@ pub mod Seen
 pub mod BothSeen
 mod SharedHosts
 mod Marks
+mod Cuts

@@ -27,7 +27,7 @@ use Rattle.hk_oplog.specs.NodeContent.{NodeContent}
 use Rattle.hk_oplog.specs.Replay.{is_legal, replay}
 use Rattle.hk_oplog.specs.Replies.{node_front, node_latest, node_page, node_streams}
 use Rattle.hk_link.specs.LinkStates.{LinkValue, OutgoingValue, more_step, whole_step, held_by, is_other_hold}
-use Rattle.hk_link.specs.Budgets.{most_pins}
+use Rattle.hk_budgets.specs.Budgets.{most_pins}
 use Rattle.hk_link.specs.NodeNumbers.{AreSizesOf, AreTablesOf, sizes_metrics}
 use Rattle.hk_link.specs.NodeSides.{Sided, cut_of}
 use Rattle.hk_values.specs.declared.metrics.Metric.{Metric}

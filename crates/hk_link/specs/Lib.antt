@@ -3,5 +3,4 @@ pub mod NodeSides
 pub mod LinkStates
 pub mod LaterReplying
 pub mod GivenWhole
-pub mod Budgets
 pub mod Sharing

@@ -5,7 +5,7 @@ ghost use Rattle.hk_wire.specs.LaterReplies.{reply_seen};
 ghost use Rattle.hk_link.specs.LaterReplying.{TellsCome, no_room_for};
 ghost use Rattle.hk_link.specs.LinkStates.{weight, weight_counted};
 
-use crate::parts_budget::{PartsBudget, Room};
+use hk_budgets::{PartsBudget, Room};
 use hk_fragment::Assembly;
 use hk_log::Version;
 use hk_types::{FormFault, Refusal, VersionKey};
@@ -57,7 +57,7 @@ impl<'a> IncomingParts<'a> {
     {
         IncomingParts {
             facts: Assembly::new(alloc),
-            room: Room::none(&budget.bytes),
+            room: budget.no_bytes(),
         }
     }
 

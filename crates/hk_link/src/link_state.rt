@@ -2,6 +2,7 @@
 
 ghost use Rattle.std.specs.Prelude.{◌≡◌, ◌<◌, ◌≤◌, ◌-◌, ◌++◌, ◌∷◌, [], true, false, Ok, IfOk, MatchBool, OnErr, filter, length, take};
 ghost use mathlib.Core.List.{IsPrefix};
+ghost use Rattle.hk_types.specs.declared.faults.Refusal.TheVariants.{LinkFull};
 ghost use Rattle.hk_wire.specs.LaterReplies.{reply_seen};
 ghost use Rattle.hk_link.specs.LaterReplying.{AreLetGo, TellsCome, TellsFirst, TellsMore};
 ghost use Rattle.hk_link.specs.NodeNumbers.{sizes_metrics};
@@ -9,11 +10,10 @@ ghost use Rattle.hk_link.specs.LinkStates.{fresh_state, held_by, is_other_hold, 
 
 use crate::incoming_parts::IncomingParts;
 use crate::link_holds::{hold_of, release_each, set_last};
-use crate::meters::Meters;
 use crate::node_side::NodeSide;
 use crate::outgoing_transfer::OutgoingTransfer;
-use crate::parts_budget::{PartsBudget, Room};
 use crate::stats::all_metrics;
+use hk_budgets::{Meters, PartsBudget, Room};
 use hk_fragment::{Assembly, Fragment};
 use hk_log::Version;
 use hk_oplog::{Hold, NodeSizes};
@@ -92,8 +92,8 @@ impl<'a> LinkState<'a> {
             giving: None,
             came: IncomingParts::new(alloc, budget),
             holds: Vec::new(alloc),
-            pins: Room::none(&budget.pins),
-            buffers: Room::none(&budget.bytes),
+            pins: budget.no_pins(),
+            buffers: budget.no_bytes(),
         }
     }
 
@@ -142,7 +142,7 @@ impl<'a> LinkState<'a> {
             came: IncomingParts::new(alloc, budget),
             holds,
             pins,
-            buffers: Room::none(&budget.bytes),
+            buffers: budget.no_bytes(),
         }
     }
 
@@ -183,9 +183,7 @@ impl<'a> LinkState<'a> {
         // A connection keeps one copy.
         self.giving = None;
         let Some(giving) = OutgoingTransfer::begin(fragment, room, self.budget) else {
-            return LaterReply::Refused(Refusal::LinkFull {
-                most: self.budget.most(),
-            });
+            return LaterReply::Refused(self.no_room());
         };
         match giving.told(self.alloc) {
             Ok(reply) => {
@@ -232,11 +230,13 @@ impl<'a> LinkState<'a> {
         replace(&mut self.came, IncomingParts::new(self.alloc, self.budget)).into_parts()
     }
 
-    /// How many bytes all connections may keep.
-    pub(crate) fn most(&self) -> u64
-        ensures { result ≡ self.now.most }
+    /// The refusal of what would take more than all connections may keep.
+    pub(crate) fn no_room(&self) -> Refusal
+        ensures { result ≡ LinkFull self.now.most }
     {
-        self.budget.most()
+        Refusal::LinkFull {
+            most: self.budget.most(),
+        }
     }
 
     /// About how many bytes the budget has left, and this connection reserved for what is between its socket and its session. It

@@ -9,7 +9,7 @@ use hk_types::{Key, Refusal, Table, Time};
 /// What a host over a seat of a node offers beside the requests of version 1. Each call that reads is answered by the
 /// seat, and takes no lock.
 pub trait NodeSide: Host {
-    ghost use Rattle.std.specs.Prelude.{◌≡◌, ℕ, true, false, List, Option, None, Result, Err, IsOk, IfOk, IfErr};
+    ghost use Rattle.std.specs.Prelude.{◌≡◌, ℕ, true, List, Option, None, Result, Err, IfOk, IfErr};
     ghost use mathlib.Core.List.{IsPrefix};
     ghost use Rattle.hk_types.specs.declared.faults.Refusal.{Refusal};
     ghost use Rattle.hk_types.specs.declared.faults.Refusal.TheVariants.{Memory};
@@ -91,20 +91,6 @@ pub trait NodeSide: Host {
     /// `ReaderSeat::keep_within` has it.
     fn keep_within(&mut self, room: u64)
         ensures { self.new ≡ self.old };
-
-    /// Whether a query would be answered at the resolved time but for that limit. Cost: as `ReaderSeat::is_latest_above`.
-    fn is_latest_above(&mut self, query: &Query) -> bool
-        ensures legal { is_legal (side.list self.new) ≡ true }
-        ensures seen { IsPrefix (side.list self.old) (side.list self.new) }
-        ensures above { result ≡ true → (replay (side.list self.new)).damaged ≡ false }
-        ensures ready { Self.ready self.old → Self.ready self.new };
-
-    /// Whether something would be cut for the base but for that limit. Cost: as `ReaderSeat::is_cut_above`.
-    fn is_cut_above(&mut self, base: Time) -> bool
-        ensures legal { is_legal (side.list self.new) ≡ true }
-        ensures seen { IsPrefix (side.list self.old) (side.list self.new) }
-        ensures above { result ≡ true → IsOk (cut_of (replay (side.list self.new)) base) }
-        ensures ready { Self.ready self.old → Self.ready self.new };
 
     /// Pins a time. Refusals and cost: as `Node::hold`; a host that only reads refuses `Form(BadKind)`.
     fn hold(&mut self, time: Time) -> Result<Hold, (Option<Hold>, Refusal)>

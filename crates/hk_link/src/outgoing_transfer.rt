@@ -7,7 +7,7 @@ ghost use Rattle.hk_link.specs.GivenWhole.{IsGivenWhole};
 ghost use Rattle.hk_link.specs.LinkStates.{begun, giving_after, part_told, weight};
 
 use crate::incoming_parts::weight_of;
-use crate::parts_budget::{PartsBudget, Room};
+use hk_budgets::{PartsBudget, Room};
 use hk_fragment::{Fragment, copy_facts};
 use hk_log::Version;
 use hk_types::{Refusal, VersionKey};
@@ -21,7 +21,7 @@ fn room_for<'a>(facts: &[(VersionKey, Version)], budget: &'a PartsBudget) -> Opt
     ensures { IfSome result (λ room. room ≡ weight facts.now) }
 {
     let bytes = weight_of(facts)?;
-    let mut room = Room::none(&budget.bytes);
+    let mut room = budget.no_bytes();
     if !room.grow(bytes) {
         return None;
     }

@@ -1,6 +1,6 @@
 //! A host that speaks both versions, over a host of a node for version 1.
 
-ghost use Rattle.std.specs.Prelude.{◌≡◌, ◌<◌, true, length};
+ghost use Rattle.std.specs.Prelude.{◌≡◌, ◌<◌, ◌==◌, ◌||◌, nat_le, true, length};
 ghost use mathlib.Core.List.{IsPrefix};
 ghost use Rattle.hk_fragment.specs.Heads.{of_facts};
 ghost use Rattle.hk_wire.specs.LaterReplies.{reply_seen};
@@ -10,7 +10,7 @@ ghost use Rattle.hk_link.specs.LinkStates.{fresh_state, link_of};
 
 use crate::link_state::LinkState;
 use crate::node_side::NodeSide;
-use crate::parts_budget::MOST_PINS;
+use hk_budgets::MOST_PINS;
 use hk_log::Version;
 use hk_model::{Front, Query};
 use hk_oplog::{Hold, NodeSizes};
@@ -60,6 +60,13 @@ fn later_reply(answer: Reply) -> LaterReply
             LaterReply::Refused(Refusal::Form(FormFault::BadKind))
         }
     }
+}
+
+/// Whether a delta since a time, or for the time 0 the full snapshot, is cut by a node with this oldest readable time.
+fn is_cut(base: Time, horizon: Time) -> bool
+    ensures { result ≡ ((base == 0) || nat_le horizon base) }
+{
+    base.number() == 0 || horizon <= base
 }
 
 /// Whether the answer to a query may have many rows.
@@ -219,12 +226,11 @@ impl<'a, H: NodeSide + Drop> PartsHost<'a, H> {
         ensures told { TellsLatest self.old.most (content_of H.side self.new) query.now (reply_seen result) }
         ensures ready { H.ready self.old.inner → H.ready self.new.inner }
     {
-        if self.inner.is_latest_above(query) {
-            return LaterReply::Refused(Refusal::LinkFull {
-                most: self.kept.most(),
-            });
+        let is_limited = self.is_limited();
+        match self.inner.marks() {
+            Ok(_whole) if is_limited => LaterReply::Refused(self.kept.no_room()),
+            _ => LaterReply::Refused(Refusal::Memory),
         }
-        LaterReply::Refused(Refusal::Memory)
     }
 
     fn page(&mut self, time: Time, table: Table, low: Key, high: Key, most: u32) -> LaterReply
@@ -271,12 +277,27 @@ impl<'a, H: NodeSide + Drop> PartsHost<'a, H> {
         ensures same { KeepsOther self.old self.new }
         ensures ready { H.ready self.old.inner → H.ready self.new.inner }
     {
-        if self.inner.is_cut_above(base) {
-            return LaterReply::Refused(Refusal::LinkFull {
-                most: self.kept.most(),
-            });
+        let is_limited = self.is_limited();
+        match self.inner.marks() {
+            Ok(front) if is_limited && is_cut(base, front.horizon) => {
+                LaterReply::Refused(self.kept.no_room())
+            }
+            _ => LaterReply::Refused(Refusal::Memory),
         }
-        LaterReply::Refused(Refusal::Memory)
+    }
+
+    /// Whether the node holds more than the budget has left for this connection, so that a reply may be refused for that.
+    fn is_limited(&mut self) -> bool
+        ensures legal { is_legal (H.side.list self.new.inner) ≡ true }
+        ensures seen { IsPrefix (H.side.list self.old.inner) (H.side.list self.new.inner) }
+        ensures same { KeepsOther self.old self.new }
+        ensures ready { H.ready self.old.inner → H.ready self.new.inner }
+    {
+        let left = self.kept.left();
+        match self.inner.sizes() {
+            Ok(sizes) => sizes.weight > left,
+            Err(_no_memory) => false,
+        }
     }
 
     /// Has the inner host join what the head and the chunks that came make.

@@ -96,7 +96,7 @@ pub(crate) fn add<J: NodeName, R: Wait + Drop>(
     if publisher.publish().is_err() {
         return Err(Refusal::Unpublished { ops });
     }
-    if publisher.is_damaged() {
+    if publisher.published().body.is_damaged() {
         return Err(Refusal::Conflict);
     }
     Ok(publisher.receipt())
@@ -166,7 +166,7 @@ pub fn prune_to<J: NodeName, R: Wait + Drop>(
     ensures horizon { IfOk result (λ t. t.0 ≡ (replay t.1).content.horizon) }
 {
     let receipt = change(publisher, Op::Prune(time))?;
-    let horizon = publisher.horizon();
+    let horizon = publisher.published().body.horizon();
     Ok((horizon, receipt))
 }
 

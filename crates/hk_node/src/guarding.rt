@@ -36,7 +36,7 @@ pub fn take_agreed<J: NodeName, R: Wait + Drop>(
         Ok(fragment) => fragment,
         Err(why) => return Err(why),
     };
-    if let Some(why) = publisher.full_refusal() {
+    if let Some(why) = publisher.published().body.full_refusal() {
         return Err(why);
     }
     let new = publisher.count_new(items);

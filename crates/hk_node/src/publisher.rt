@@ -5,7 +5,7 @@ ghost use Rattle.left_right.specs.Sides.{view as known};
 ghost use Rattle.hk_oplog.specs.declared.op.Op.TheVariants.{Start as StartOf};
 ghost use Rattle.hk_types.specs.declared.faults.Refusal.TheVariants.{Memory};
 ghost use Rattle.hk_model.specs.Replica.Fragments.{cut};
-ghost use Rattle.hk_oplog.specs.Replay.{full_refusal, join_refused, kind_of, start_content, is_legal, refusal_of, replay, IsListOf};
+ghost use Rattle.hk_oplog.specs.Replay.{join_refused, kind_of, start_content, is_legal, refusal_of, replay, IsListOf};
 ghost use Rattle.hk_oplog.specs.Guarded.{AgreesWith};
 ghost use Rattle.hk_oplog.specs.NewItems.{count_new};
 ghost use Rattle.hk_node.specs.Published.{IsEmptied, IsReady, IsReplay, IsShown, ShowsAll, next, pending, shown, waiting};
@@ -244,7 +244,7 @@ impl<J: NodeName, R: Wait + Drop> Publisher<J, R> {
     }
 
     /// What readers read now.
-    fn published(&self) -> &Replica
+    pub(crate) fn published(&self) -> &Replica
         ensures body { result.now.body ≡ replay self.now.0 }
         ensures prefix { result.now.prefix ≡ (J.book, self.now.0) }
         ensures legal { IsListOf J.kind self.now.0 }
@@ -273,20 +273,6 @@ impl<J: NodeName, R: Wait + Drop> Publisher<J, R> {
         self.published().body.hold_count()
     }
 
-    /// The oldest readable time after the published list.
-    pub fn horizon(&self) -> Time
-        ensures { result ≡ (replay self.now.0).content.horizon }
-    {
-        self.published().body.horizon()
-    }
-
-    /// Whether the published list has a conflict.
-    pub fn is_damaged(&self) -> bool
-        ensures { result ≡ (replay self.now.0).damaged }
-    {
-        self.published().body.is_damaged()
-    }
-
     /// Why an operation is refused after the published list, if it is. Cost: O(s + h), s streams, h active pins, and
     /// in a guarded node that of the tests of a fragment, and of a prune, as `Body::refusal` has them.
     pub fn refusal(&self, op: &Op) -> Option<Refusal>
@@ -300,13 +286,6 @@ impl<J: NodeName, R: Wait + Drop> Publisher<J, R> {
         ensures { result ≡ join_refused (replay self.now.0) (cut state.now 0) }
     {
         self.published().body.merge_refusal(state)
-    }
-
-    /// `NodeFull` where the published list has no room for one operation more. Cost: O(1).
-    pub fn full_refusal(&self) -> Option<Refusal>
-        ensures { result ≡ full_refusal (replay self.now.0) }
-    {
-        self.published().body.full_refusal()
     }
 
     /// The fragment of what is new in items after the published list, where they agree with it and with each other.

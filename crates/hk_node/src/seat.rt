@@ -1,6 +1,6 @@
 //! The seats of readers, which take no lock and never wait: a seat is a reader's session with monotonic reads.
 
-ghost use Rattle.std.specs.Prelude.{◌≡◌, ◌≢◌, ◌⊎◌, All, true, false, length, IsOk, IfOk, IfErr, IsTrue, vec_len};
+ghost use Rattle.std.specs.Prelude.{◌≡◌, ◌≢◌, ◌⊎◌, All, true, length, IfOk, IfErr, IsTrue, vec_len};
 ghost use Rattle.hk_types.specs.declared.faults.Refusal.TheVariants.{Damaged, Memory};
 ghost use Rattle.hk_model.specs.Replica.Pages.{page_seen};
 ghost use Rattle.hk_model.specs.Replica.StreamsTold.{streams_seen};
@@ -390,40 +390,6 @@ impl<J: NodeName> ReaderSeat<J> {
         let tables = reading.get().body.tables(self.alloc);
         self.leave(reading);
         Ok(tables?)
-    }
-
-    /// Whether the newest answer to a query would be made but for the limit of `keep_within`. Where the seat can't enter it says no. Cost:
-    /// O(1) where all that is held is within the limit; else that of the answer without its copies.
-    pub fn is_latest_above(&mut self, query: &Query) -> bool
-        ensures legal { is_legal self.new ≡ true }
-        ensures seen { IsPrefix self.old self.new }
-        ensures whole { result ≡ true → (replay self.new).damaged ≡ false }
-    {
-        let Ok(reading) = self.enter() else {
-            return false;
-        };
-        let is_above = reading
-            .get()
-            .body
-            .is_latest_above(self.alloc, query, self.room);
-        self.leave(reading);
-        is_above
-    }
-
-    /// Whether a delta, or for the base 0 the full snapshot, would be made but for the limit of `keep_within`. Where the seat can't enter it
-    /// says no. Cost: O(1) for the full snapshot, and where all that is held is within the limit; else that of a delta without its copies.
-    pub fn is_cut_above(&mut self, base: Time) -> bool
-        ensures legal { is_legal self.new ≡ true }
-        ensures seen { IsPrefix self.old self.new }
-        ensures whole { result ≡ true → IsOk (node_whole (replay self.new)) }
-        ensures delta { result ≡ true → (base ≡ 0) ⊎ IsOk (node_delta (replay self.new) base) }
-    {
-        let Ok(reading) = self.enter() else {
-            return false;
-        };
-        let is_above = reading.get().body.is_cut_above(self.alloc, base, self.room);
-        self.leave(reading);
-        is_above
     }
 
     /// The node's range of readable times. Refusals in order: `Damaged`, `Memory`. Cost: O(s), s streams.

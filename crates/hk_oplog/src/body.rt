@@ -1,6 +1,6 @@
 //! What a copy of the node's state holds, and what operations make of it.
 
-ghost use Rattle.std.specs.Prelude.{◌≡◌, ◌⊎◌, ◌<◌, ◌≤◌, ◌^◌, true, false, length, None, IsOk, IfOk, IfErr, MatchResult};
+ghost use Rattle.std.specs.Prelude.{◌≡◌, ◌⊎◌, ◌<◌, ◌≤◌, ◌^◌, true, length, None, IsOk, IfOk, IfErr, MatchResult};
 ghost use Rattle.std.specs.Option.{option_map};
 ghost use Rattle.hk_types.specs.declared.faults.Refusal.TheVariants.{Damaged, Memory};
 ghost use Rattle.hk_model.specs.Replica.Fragments.{cut};
@@ -578,11 +578,13 @@ impl Body {
         ensures guarded { result.guarded ≡ self.now.guarded }
         ensures damaged { result.damaged ≡ self.now.damaged }
     {
-        let tally = self.state.facts().tally();
+        let facts = self.state.facts();
+        let tally = facts.tally();
         NodeSizes {
             rows: tally.rows,
             ends: tally.ends,
             bytes: tally.bytes,
+            weight: facts.bytes_of_all(),
             operations: self.op_count,
             pins: self.holds.len() as u64,
             guarded: self.guarded,
@@ -644,10 +646,8 @@ impl Body {
     }
 
     /// The same at its resolved time.
-    pub fn is_latest_above(&self, alloc: Global, query: &Query, room: u64) -> bool
-        ensures { result ≡ true → self.now.damaged ≡ false }
-    {
-        !self.damaged && self.is_answer_above(alloc, self.state.readable(), query, room)
+    pub fn is_latest_above(&self, alloc: Global, query: &Query, room: u64) -> bool {
+        self.is_answer_above(alloc, self.state.readable(), query, room)
     }
 
     /// Its range of readable times.

@@ -9,6 +9,8 @@ pub struct NodeSizes {
     pub ends: u64,
     /// Bytes of the bodies of those rows.
     pub bytes: u64,
+    /// How many bytes all of it takes as a fragment, at most: those of a message, and 128 more for each row and end.
+    pub weight: u64,
     /// Operations of the node's list.
     pub operations: u64,
     /// Pins that are active.

@@ -155,13 +155,13 @@ fn rooms<J: NodeName, R: Wait + Abort>(rt: &R, alloc: Global, list: NewList) -> 
     };
     assert!(rt; seat.whole().is_ok() && seat.ask(time(2)?, &many).is_ok());
     seat.keep_within(4_000);
-    assert!(rt; lacks(seat.whole()) && seat.is_cut_above(Time::zero()));
+    assert!(rt; lacks(seat.whole()));
     assert!(rt; lacks(seat.ask(time(2)?, &many)) && lacks(seat.latest(&many)));
     assert!(rt; seat.ask(time(2)?, &few).is_ok() && seat.ask(time(2)?, &get(1)).is_ok());
-    assert!(rt; seat.delta_since(time(1)?).is_ok() && !seat.is_cut_above(time(1)?));
+    assert!(rt; seat.delta_since(time(1)?).is_ok());
     assert!(rt; seat.page(time(2)?, table, low, high, 1_000).is_ok());
     seat.keep_within(100);
-    assert!(rt; lacks(seat.delta_since(time(1)?)) && seat.is_cut_above(time(1)?));
+    assert!(rt; lacks(seat.delta_since(time(1)?)));
     assert!(rt; seat.streams().is_ok() && seat.front().is_ok());
     Ok(())
 }

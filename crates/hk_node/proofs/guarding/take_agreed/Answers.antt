@@ -1,4 +1,5 @@
-use Rattle.std.proofs.Common.{Ok, Err, sym, ◌∙◌}
+use Rattle.std.proofs.Common.{Ok, Err, ap, sym, ◌∙◌}
+use Rattle.hk_oplog.specs.Replay.{full_refusal}
 use Rattle.hk_oplog.specs.declared.op.Op.TheVariants.{Join}
 use Rattle.hk_node.proofs.GuardedChanges.{take_made, take_refused}
 use Rattle.hk_node.proofs.NewItems.{told_new}
@@ -10,12 +11,12 @@ returns-in-Err-clause-take g c = take_refused c.args.publisher.now c.publish.new
 pub returns-in-Ok-add-clause-take : goal.returns-in-Ok-add-clause-take
 returns-in-Ok-add-clause-take g c =
     take_made c.args.publisher.now c.publish.new.self c.add.new.publisher c.args.items.now c.in-Ok-agreed.fragment (Ok c.in-Ok-add.receipt) c.publish.ensures.legal.0 c.in-Ok.ensures.lists c.in-Ok-agreed.ensures
-    (sym c.in_default-full_refusal.is ∙ c.full_refusal.ensures) c.in-Ok-add.ensures.adds
+    (sym c.in_default-full_refusal.is ∙ c.full_refusal.ensures ∙ ap full_refusal c.published.ensures.body) c.in-Ok-add.ensures.adds
 
 pub returns-in-Err-add-clause-take : goal.returns-in-Err-add-clause-take
 returns-in-Err-add-clause-take g c =
     take_made c.args.publisher.now c.publish.new.self c.add.new.publisher c.args.items.now c.in-Ok-agreed.fragment (Err c.in-Err-add.why) c.publish.ensures.legal.0 c.in-Ok.ensures.lists c.in-Ok-agreed.ensures
-    (sym c.in_default-full_refusal.is ∙ c.full_refusal.ensures) c.in-Err-add.ensures.adds
+    (sym c.in_default-full_refusal.is ∙ c.full_refusal.ensures ∙ ap full_refusal c.published.ensures.body) c.in-Err-add.ensures.adds
 
 pub returns-in-Ok-add-clause-new : goal.returns-in-Ok-add-clause-new
 returns-in-Ok-add-clause-new g c =

@@ -1,6 +1,6 @@
 use Rattle.std.proofs.Common.{rules}
-use Rattle.hk_link.proofs.Budgets.{returns}
-use Rattle.hk_link.proofs.parts_budget.Stock.give_back.Goals as goal
+use Rattle.hk_budgets.proofs.Budgets.{returns}
+use Rattle.hk_budgets.proofs.parts_budget.Stock.give_back.Goals as goal
 
 pub fetch_add-before-requires : goal.fetch_add-before-requires
 fetch_add-before-requires c =

@@ -225,7 +225,7 @@ impl<'a> Meters<'a> {
 
     /// What was counted, by rising names and labels; a kind of which no request came is left out, and so is a refusal that never was,
     /// and the memory where it isn't known. Cost: O(d), d doors, and that of reading the system's text on the process.
-    pub(crate) fn collect(&self, alloc: Global) -> Result<Vec<Metric>, AllocError> {
+    pub fn collect(&self, alloc: Global) -> Result<Vec<Metric>, AllocError> {
         let mut out = Vec::new(alloc);
         let seconds = self.now.load(Ordering::SeqCst);
         put(

@@ -6,7 +6,7 @@ use mathlib.Core.Option.{some, some-injective, some-ne-none}
 use lib.ListN.{get_elem?}
 use prog.Atomic.{either}
 use Rattle.atomic_table.specs.Table.{State, Allows, keeps}
-use Rattle.hk_link.specs.Budgets.{AddsUp, Takes, Returns}
+use Rattle.hk_budgets.specs.Budgets.{AddsUp, Takes, Returns}
 
 pub sum_set : (rooms : List ℕ) (id before after : ℕ) → get_elem? rooms id ≡ some before → sum (set rooms id after) + before ≡ sum rooms + after
 sum_set [] id before after there = absurd (some-ne-none before (sym there))

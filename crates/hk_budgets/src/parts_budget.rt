@@ -1,7 +1,7 @@
 //! What the connections of a node keep, all together: bytes for messages of version 2, and pins.
 
 ghost use Rattle.std.specs.Prelude.{◌≡◌, ◌+◌, ◌≤◌, [], true, false, IfOk};
-ghost use Rattle.hk_link.specs.Budgets.{BudgetLaw};
+ghost use Rattle.hk_budgets.specs.Budgets.{BudgetLaw};
 
 use atomic_table::{Play, Seat, Table, TableRule};
 use std::alloc::{AllocError, Global};
@@ -11,7 +11,7 @@ use std::marker::Model;
 struct Sums;
 
 impl TableRule<(), u64, u64> for Sums {
-    ghost use Rattle.hk_link.specs.Budgets.{AddsUp};
+    ghost use Rattle.hk_budgets.specs.Budgets.{AddsUp};
 
     ghost holds = { λ most s. AddsUp most s.words s.views };
 
@@ -32,7 +32,7 @@ struct Taken;
 
 impl Play<(), u64> for Taken {
     ghost use Rattle.std.specs.Prelude.{◌≡◌};
-    ghost use Rattle.hk_link.specs.Budgets.{Takes};
+    ghost use Rattle.hk_budgets.specs.Budgets.{Takes};
 
     ghost then = { λ s old found new. Takes s.first s.second old.0 found new.0 × (new.1 ≡ old.1) };
 }
@@ -42,7 +42,7 @@ struct Returned;
 
 impl Play<(), u64> for Returned {
     ghost use Rattle.std.specs.Prelude.{◌≡◌};
-    ghost use Rattle.hk_link.specs.Budgets.{Returns};
+    ghost use Rattle.hk_budgets.specs.Budgets.{Returns};
 
     ghost then = { λ s old _ new. Returns s.first old.0 new.0 × (new.1 ≡ old.1) };
 }
@@ -54,14 +54,14 @@ impl Play<(), u64> for Returned {
 /// connections have reserved make the limit at each moment, so they never have more (`budget_law`). It is one word, which each
 /// takes from by one exchange and gives back to by one sum, so that no connection waits for another.
 #[derive(Drop)]
-pub(crate) struct Stock {
+struct Stock {
     most: u64,
     table: Table<(), u64, u64, Sums, Global>,
 }
 
 impl Model for Stock {
     ghost use Rattle.std.specs.Prelude.{◌≡◌, ◌<◌, ◌^◌};
-    ghost use Rattle.hk_link.specs.Budgets.{StockValue, stock_code};
+    ghost use Rattle.hk_budgets.specs.Budgets.{StockValue, stock_code};
 
     ghost Value = { StockValue };
 
@@ -133,20 +133,20 @@ impl Stock {
 }
 
 /// How many pins all connections of a node have at most, together.
-pub(crate) const MOST_PINS: u64 = 65_536;
+pub const MOST_PINS: u64 = 65_536;
 
 /// What the connections of a node may keep, all together: so many bytes for messages of version 2, for what they send in
 /// chunks and for the chunks that came, and 65,536 pins. A fact counts with its bytes in a message and 128 more, so that the
 /// limit is one on memory. Contracts see it as the limit of bytes.
 #[derive(Drop)]
 pub struct PartsBudget {
-    pub(crate) bytes: Stock,
-    pub(crate) pins: Stock,
+    bytes: Stock,
+    pins: Stock,
 }
 
 impl Model for PartsBudget {
     ghost use Rattle.std.specs.Prelude.{◌≡◌, ℕ};
-    ghost use Rattle.hk_link.specs.Budgets.{most_pins};
+    ghost use Rattle.hk_budgets.specs.Budgets.{most_pins};
 
     ghost Value = { ℕ };
 
@@ -172,6 +172,20 @@ impl PartsBudget {
         self.bytes.most
     }
 
+    /// Room for no bytes, which can grow.
+    pub fn no_bytes(&self) -> Room<'_>
+        ensures { result ≡ 0 }
+    {
+        Room::none(&self.bytes)
+    }
+
+    /// Room for no pin, which can grow.
+    pub fn no_pins(&self) -> Room<'_>
+        ensures { result ≡ 0 }
+    {
+        Room::none(&self.pins)
+    }
+
     /// How many bytes connections have reserved now, all together. Cost: O(1).
     pub fn reserved(&self) -> u64
         ensures { result ≤ self.now }
@@ -187,7 +201,7 @@ pub fn budget_law()
 {}
 
 /// So many of a stock that are reserved. They are returned when it is dropped.
-pub(crate) struct Room<'a> {
+pub struct Room<'a> {
     stock: &'a Stock,
     count: u64,
     seat: Seat<(), u64>,
@@ -205,7 +219,7 @@ impl<'a> Model for Room<'a> {
 
 impl<'a> Room<'a> {
     /// Nothing of a stock.
-    pub(crate) fn none(stock: &'a Stock) -> Room<'a>
+    fn none(stock: &'a Stock) -> Room<'a>
         ensures { result ≡ 0 }
     {
         Room {
@@ -216,19 +230,19 @@ impl<'a> Room<'a> {
     }
 
     /// About how many are left of its stock.
-    pub(crate) fn left(&self) -> u64 {
+    pub fn left(&self) -> u64 {
         self.stock.left()
     }
 
     /// How many are reserved.
-    pub(crate) fn count(&self) -> u64
+    pub fn count(&self) -> u64
         ensures { result ≡ self.now }
     {
         self.count
     }
 
     /// Reserves so many more, and returns whether so many were left.
-    pub(crate) fn grow(&mut self, more: u64) -> bool
+    pub fn grow(&mut self, more: u64) -> bool
         ensures more { result ≡ true → self.new ≡ self.old + more }
         ensures same { result ≡ false → self.new ≡ self.old }
     {
@@ -243,7 +257,7 @@ impl<'a> Room<'a> {
     }
 
     /// Returns so many of them.
-    pub(crate) fn shrink(&mut self, less: u64)
+    pub fn shrink(&mut self, less: u64)
         requires { less ≤ self.old }
         ensures { self.new + less ≡ self.old }
     {
