@@ -1,12 +1,14 @@
--- Encodings in pieces: what comes before the facts of a fragment or the rows of an answer, and these from one of them on.
+-- Encodings in pieces: what comes before the facts of a fragment, or the rows of an answer or a page, and these from one of them on.
 use Rattle.std.specs.Prelude.{◌≡◌, ℕ, ◌<◌, ◌≤◌, List, [], ◌∷◌, ◌++◌, length, drop}
 use Rattle.std.specs.Int.{w16, w32, w64}
 use Rattle.std.specs.List.{flat_map}
 use Rattle.hk_types.specs.Values.{RowValue}
 use Rattle.hk_model.specs.Replica.Answers.{AnswerValue, One, Rows, Number}
 use Rattle.hk_frames.specs.Fields.{number}
+use Rattle.hk_model.specs.Replica.Pages.{PageValue}
 use Rattle.hk_values.specs.Answers.{answer_text}
 use Rattle.hk_values.specs.Fragments.{WireFragment, stream_text}
+use Rattle.hk_values.specs.Told.{flag_text}
 
 -- Of the elements from the first of these numbers on, those before the second one were added: all that are left, or more than so
 -- many bytes.
@@ -35,3 +37,7 @@ unfoldable pub answer_front : AnswerValue → List ℕ
 answer_front (One row) = answer_text (One row)
 answer_front (Rows rows) = 2 ∷ number w32 (length rows)
 answer_front (Number n) = answer_text (Number n)
+
+-- what the encoding of a page has before its rows
+abbrev pub page_front : PageValue → List ℕ
+page_front page = flag_text page.more ++ number w32 (length page.rows)
