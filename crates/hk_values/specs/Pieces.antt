@@ -1,4 +1,4 @@
--- Encodings in pieces: what comes before the facts of a fragment or the rows of an answer, and these from one of them on.
+-- Encodings in pieces: what comes before the facts of a fragment, or the rows of an answer or a page, and these from one of them on.
 use Rattle.std.specs.Prelude.{◌≡◌, ℕ, ◌<◌, ◌≤◌, List, [], ◌∷◌, ◌++◌, length, drop}
 use Rattle.std.specs.Int.{w16, w32, w64}
 use Rattle.std.specs.List.{flat_map}
@@ -6,8 +6,10 @@ use Rattle.hk_types.specs.Values.{RowValue}
 use Rattle.hk_model.specs.declared.answer.Answer.{Answer}
 use Rattle.hk_model.specs.Replica.Answers.{AnswerValue, One, Rows, Number, answer_seen}
 use Rattle.hk_frames.specs.Fields.{number}
+use Rattle.hk_model.specs.Replica.Pages.{PageValue}
 use Rattle.hk_values.specs.Answers.{answer_text, keyed_text}
 use Rattle.hk_values.specs.Fragments.{WireFragment, stream_text}
+use Rattle.hk_values.specs.Told.{flag_text}
 
 -- Of the elements from the first of these numbers on, those before the second one were added: all that are left, or more than so
 -- many bytes.
@@ -40,3 +42,7 @@ answer_front (Number n) = answer_text (Number n)
 -- of the rows of an answer those from the first of these numbers on were added, before the second one
 abbrev pub AddsRows : Answer → ℕ → ℕ → ℕ → List ℕ → List ℕ → Type 0
 AddsRows answer = AddsFrom keyed_text (rows_of (answer_seen answer))
+
+-- what the encoding of a page has before its rows
+abbrev pub page_front : PageValue → List ℕ
+page_front page = flag_text page.more ++ number w32 (length page.rows)

@@ -229,16 +229,17 @@ fn put_keyed(out: &mut Vec<u8>, key: Key, row: &Row) -> Result<(), AllocError>
 }
 
 /// Adds rows from the one of this number on: all that are left, or as many as have more than so many bytes. Returns the
-/// number of the next row, which is how many rows there are where none is left.
+/// number of the next row, which is how many rows there are where none is left. Cost: O(n), n bytes added.
 #[tactic(auto, using(std::proofs::Common::append_assoc, hk_frames::proofs::Prefix::kept_all, hk_frames::proofs::Prefix::kept_before, hk_frames::proofs::Prefix::kept_both))]
-fn put_rows_from(
+pub fn put_rows_from(
     out: &mut Vec<u8>,
     rows: &[(Key, Row)],
     from: usize,
     most: usize,
 ) -> Result<usize, AllocError>
     requires { from ≤ length rows.now }
-    ensures ok { IfOk result (λ to. AddsFrom spec.keyed_text rows.now from most to out.old.items out.new.items) }
+    ensures ok { IfOk result (λ to.
+        AddsFrom spec.keyed_text rows.now from most to out.old.items out.new.items) }
     ensures kept { OnErr result (take (length out.old.items) out.new.items ≡ out.old.items) }
 {
     let start = out.len();
@@ -254,14 +255,11 @@ fn put_rows_from(
     Ok(to)
 }
 
-/// Adds the rows behind their count.
-#[tactic(auto, using(std::proofs::Common::append_assoc, hk_frames::proofs::Prefix::kept_all, hk_frames::proofs::Prefix::kept_before, hk_frames::proofs::Prefix::kept_both))]
+/// Adds all rows, without their count.
 pub(crate) fn put_rows(out: &mut Vec<u8>, rows: &[(Key, Row)]) -> Result<(), AllocError>
-    requires { length rows.now < 2 ^ 32 }
-    ensures ok { OnOk result (out.new.items ≡ out.old.items ++ spec.rows_text rows.now) }
+    ensures ok { OnOk result (out.new.items ≡ out.old.items ++ flat_map spec.keyed_text rows.now) }
     ensures kept { OnErr result (take (length out.old.items) out.new.items ≡ out.old.items) }
 {
-    put_u32(out, rows.len() as u32)?;
     let _next = put_rows_from(out, rows, 0, usize::MAX)?;
     let _bound = out.len();
     Ok(())

@@ -6,12 +6,13 @@ ghost use Rattle.hk_frames.specs.Fields.{GivesValue, GivesOrRunsOut};
 ghost use Rattle.hk_model.specs.Replica.Pages.{page_seen};
 ghost use Rattle.hk_model.specs.Replica.StreamsTold.{streams_seen};
 ghost use Rattle.hk_values.specs.Fragments.{DiedFits, stream_count_at};
+ghost use Rattle.hk_values.specs.Pieces.{page_front};
 ghost use Rattle.hk_values.specs.Told as spec;
 
 use crate::answer::{keys_rise, put_rows, read_rows, rows_len};
 use crate::field_len::{number_len, time_len};
 use crate::numbers::{is_ops, read_front, read_ops, read_time};
-use hk_frames::{Cursor, ReadError, put_u16, put_u64};
+use hk_frames::{Cursor, ReadError, put_u16, put_u32, put_u64};
 use hk_model::{Page, StreamTold, StreamsTold};
 use hk_types::{FormFault, Time};
 use std::alloc::{AllocError, Global};
@@ -227,6 +228,17 @@ fn put_flag(out: &mut Vec<u8>, yes: bool) -> Result<(), AllocError>
     Ok(())
 }
 
+/// Adds what a page's bytes have before its rows: whether more follow, and how many rows there are.
+#[tactic(auto, using(std::proofs::Common::append_assoc, hk_frames::proofs::Prefix::kept_all, hk_frames::proofs::Prefix::kept_before, hk_frames::proofs::Prefix::kept_both))]
+pub fn put_page_front(out: &mut Vec<u8>, page: &Page) -> Result<(), AllocError>
+    requires { spec.page_keeps_rules (page_seen page.now) ≡ true }
+    ensures ok { OnOk result (out.new.items ≡ out.old.items ++ page_front (page_seen page.now)) }
+    ensures kept { OnErr result (take (length out.old.items) out.new.items ≡ out.old.items) }
+{
+    put_flag(out, page.more)?;
+    put_u32(out, page.rows.len() as u32)
+}
+
 /// Adds a page's bytes.
 #[tactic(auto, using(std::proofs::Common::append_assoc, hk_frames::proofs::Prefix::kept_all, hk_frames::proofs::Prefix::kept_before, hk_frames::proofs::Prefix::kept_both))]
 pub fn put_page(out: &mut Vec<u8>, page: &Page) -> Result<(), AllocError>
@@ -234,7 +246,7 @@ pub fn put_page(out: &mut Vec<u8>, page: &Page) -> Result<(), AllocError>
     ensures ok { OnOk result (out.new.items ≡ out.old.items ++ spec.page_text (page_seen page.now)) }
     ensures kept { OnErr result (take (length out.old.items) out.new.items ≡ out.old.items) }
 {
-    put_flag(out, page.more)?;
+    put_page_front(out, page)?;
     put_rows(out, &page.rows)
 }
 

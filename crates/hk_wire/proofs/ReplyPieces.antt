@@ -1,7 +1,8 @@
 -- A reply that is added in pieces.
-use Rattle.std.proofs.Common.{◌≡◌, refl, sym, ap, subst, ◌∙◌, ℕ, ◌+◌, ◌-◌, ◌<◌, ◌≤◌, true, List, [], ◌∷◌, ◌++◌, length, take, drop, get_or, Option, Some, None, IfSome, IfNone, Result, Ok, Err, IfOk, leb, leb-true, append_assoc, append-nil, arith}
+use Rattle.std.proofs.Common.{◌≡◌, refl, sym, ap, subst, ◌∙◌, ℕ, ◌+◌, ◌-◌, ◌<◌, ◌≤◌, true, List, [], ◌∷◌, ◌++◌, length, take, drop, Option, Some, None, IfSome, IfNone, Result, Ok, Err, IfOk, Bool, cond, leb, leb-true, le-leb, false, inl, inr, append_assoc, append-nil, arith}
 use Rattle.std.specs.Int.{w32, w64}
 use Rattle.std.specs.List.{flat_map}
+use Rattle.std.proofs.lemmas.Bool.Decides.{leb_tells}
 use Rattle.std.proofs.lemmas.List.{length-append, length-drop, drop_all}
 use Rattle.std.proofs.lemmas.List.Concat.{flat_map-cons}
 use Rattle.hk_codec.proofs.Lengths.{len16, len32, len64}
@@ -12,20 +13,30 @@ use Rattle.hk_frames.proofs.ReadingSteps.{both as both_true}
 use Rattle.hk_types.specs.Values.{RowValue}
 use Rattle.hk_fragment.specs.Parts.{Known}
 use Rattle.hk_values.specs.Answers.{keyed_text}
-use Rattle.hk_values.specs.Fragments.{WireFragment, fact_text}
-use Rattle.hk_values.specs.Pieces.{AddsFrom, rows_of}
+use Rattle.hk_values.specs.Fragments.{fact_text}
+use Rattle.hk_values.specs.Pieces.{rows_of}
+use Rattle.hk_values.specs.Parts.{WireHead, head_text}
+use Rattle.hk_values.specs.Told.{flag_text}
 use Rattle.hk_values.proofs.AddedPieces.{fragment_parts, answer_parts}
-use Rattle.hk_model.specs.Replica.Answers.{AnswerValue}
+use Rattle.hk_values.proofs.Lengths.{head_text_len}
 use Rattle.hk_wire.specs.Messages.{message_text}
 use Rattle.hk_wire.specs.LaterReplies as later
-use Rattle.hk_wire.specs.Replies.{ReplyValue, Done, Front, Fragment, Answer, Refused, Later, reply_kind, reply_body, reply_rest, reply_text, keeps_rules, is_encodable}
+use Rattle.hk_wire.specs.Replies.{ReplyValue, Fragment, Answer, Later, reply_kind, reply_body, reply_rest, reply_text, keeps_rules, is_encodable}
 use Rattle.hk_wire.specs.declared.reply_pieces.Place.{Place}
 use Rattle.hk_wire.specs.Pieces.{later_front, later_rest, later_count, body_front, rest_from, count_of, AddsItems, AddsFront, IsInside, AddsPiece}
 
 -- ---- parts
 
+-- the head of a last chunk, where it comes yet
+abbrev head_at : Bool → WireHead → List ℕ
+head_at b head = cond b (head_text head) []
+
 later_parts : (r : later.ReplyValue) → later_front r ++ later_rest r 0 ≡ later.reply_body r
 later_parts (later.Latest t a) = append_assoc (number w64 t) _ (flat_map keyed_text (rows_of a)) ∙ ap (λ (l : List ℕ). number w64 t ++ l) (answer_parts a)
+later_parts (later.Page page) = append_assoc (flag_text page.more) (number w32 (length page.rows)) (flat_map keyed_text page.rows)
+later_parts (later.Part left facts) = append_assoc (number w64 left) (number w32 (length facts)) (flat_map fact_text facts)
+later_parts (later.LastPart facts head) =
+    sym (append_assoc (number w32 (length facts)) (flat_map fact_text facts) (head_at (leb 0 (length facts)) head)) ∙ ap (λ (b : Bool). (number w32 (length facts) ++ flat_map fact_text facts) ++ head_at b head) (le-leb 0 (length facts) (omega arith))
 later_parts other = append-nil (later.reply_body other)
 
 body_parts : (r : ReplyValue) → body_front r ++ rest_from r 0 ≡ reply_body r
@@ -40,6 +51,11 @@ rest_of_all text xs n h = ap (flat_map text) (drop_all n xs h)
 
 later_none : (r : later.ReplyValue) (n : ℕ) → later_count r ≤ n → later_rest r n ≡ []
 later_none (later.Latest t a) n h = rest_of_all keyed_text (rows_of a) n h
+later_none (later.Page page) n h = rest_of_all keyed_text page.rows n h
+later_none (later.Part left facts) n h = rest_of_all fact_text facts n h
+later_none (later.LastPart facts head) n h =
+    let off : leb n (length facts) ≡ false = elim (leb_tells n (length facts)) [ inl t ↦ absurd (omega (arith, h, t.1)) | inr f ↦ f.0 ] in
+    ap (λ (t : List ℕ). t ++ head_at (leb n (length facts)) head) (rest_of_all fact_text facts n (omega (arith, h))) ∙ ap (λ (b : Bool). head_at b head) off
 later_none other n h = refl
 
 rest_none : (r : ReplyValue) (n : ℕ) → count_of r ≤ n → rest_from r n ≡ []
@@ -66,6 +82,11 @@ some_row e = simp (length-append, len64) (omega arith)
 
 later_some : (r : later.ReplyValue) (n : ℕ) → n < later_count r → 0 < length (later_rest r n)
 later_some (later.Latest t a) n h = some_rest keyed_text (rows_of a) n some_row h
+later_some (later.Page page) n h = some_rest keyed_text page.rows n some_row h
+later_some (later.Part left facts) n h = some_rest fact_text facts n some_fact h
+later_some (later.LastPart facts head) n h =
+    let at : length (head_at (leb n (length facts)) head) ≡ length (head_text head) = ap (λ (b : Bool). length (head_at b head)) (le-leb n (length facts) (omega (arith, h))) in
+    omega (arith, at, head_text_len head, length-append (flat_map fact_text (drop n facts)) (head_at (leb n (length facts)) head))
 later_some other n h = absurd (omega (arith, h))
 
 rest_some : (r : ReplyValue) (n : ℕ) → n < count_of r → 0 < length (rest_from r n)
@@ -75,18 +96,6 @@ rest_some (Later r) n h = later_some r n h
 rest_some other n h = absurd (omega (arith, h))
 
 -- ---- what was added
-
-pub facts_added : (f : WireFragment) (from to : ℕ) (before after : List ℕ) → AddsFrom fact_text f.facts from 65536 to before after → AddsItems (Fragment f) from to before after
-facts_added f from to before after h = record { more = h.more; added = h.added; rest = h.rest; first = h.first; within = h.within; many = h.many }
-
-pub rows_added : (a : AnswerValue) (from to : ℕ) (before after : List ℕ) → AddsFrom keyed_text (rows_of a) from 65536 to before after → AddsItems (Answer a) from to before after
-rows_added a from to before after h = record { more = h.more; added = h.added; rest = h.rest; first = h.first; within = h.within; many = h.many }
-
-pub latest_added : (t : ℕ) (a : AnswerValue) (from to : ℕ) (before after : List ℕ) → AddsFrom keyed_text (rows_of a) from 65536 to before after → AddsItems (Later (later.Latest t a)) from to before after
-latest_added t a from to before after h = record { more = h.more; added = h.added; rest = h.rest; first = h.first; within = h.within; many = h.many }
-
-pub none_added : (r : ReplyValue) (from : ℕ) (before : List ℕ) → from ≤ count_of r → count_of r ≡ 0 → AddsItems r from from before before
-none_added r from before h none = record { more = []; added = sym (append-nil before); rest = refl; first = omega arith; within = h; many = λ lt. absurd (omega (arith, lt, none)) }
 
 -- the first piece: the length, the version and the kind, what the body has before its facts or rows, and these
 pub front_added : (r : ReplyValue) (rest kind to : ℕ) (old head front new : List ℕ) → rest ≡ length (reply_rest r) → kind ≡ reply_kind r → head ≡ old ++ (number w32 rest ++ message_text kind []) → front ≡ head ++ body_front r → AddsItems r 0 to front new → AddsFront r to old new
@@ -181,3 +190,6 @@ inside_size r p at = omega (arith, text_size r at.encodable, at.bytes, at.left, 
 pub if_ok : {A E : Type 0} (P Q : A → Type 0) (r : Result A E) → ((x : A) → P x → Q x) → IfOk r P → IfOk r Q
 if_ok P Q (Ok x) f h = f x h
 if_ok P Q (Err e) f h = tt
+
+pub inside_rules : (r : ReplyValue) (p : Place) → IsInside r p → keeps_rules r ≡ true
+inside_rules r p at = (both_true (keeps_rules r) (leb (length (reply_rest r)) 268435456) at.encodable).0

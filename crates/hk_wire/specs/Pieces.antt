@@ -1,20 +1,27 @@
 -- Replies in pieces: how many facts or rows a reply has, and what of its encoding comes from one of them on.
-use Rattle.std.specs.Prelude.{◌≡◌, ◌⊎◌, ℕ, ◌<◌, ◌≤◌, true, List, [], ◌++◌, length, take, drop, Option, Some, None}
-use Rattle.std.specs.Int.{w64}
+use Rattle.std.specs.Prelude.{◌≡◌, ◌⊎◌, ℕ, ◌+◌, ◌<◌, ◌≤◌, nat_le, if◌then◌else◌, true, List, [], ◌++◌, length, take, drop, Option, Some, None}
+use Rattle.std.specs.Int.{w32, w64}
 use Rattle.std.specs.List.{flat_map}
+use Rattle.hk_fragment.specs.Heads.{HeadValue}
+use Rattle.hk_fragment.specs.Parts.{Known}
 use Rattle.hk_frames.specs.Fields.{number}
 use Rattle.hk_values.specs.Answers.{keyed_text}
 use Rattle.hk_values.specs.Fragments.{fact_text}
-use Rattle.hk_values.specs.Pieces.{fragment_front, rows_of, answer_front}
+use Rattle.hk_values.specs.Parts.{head_text, wire_head_of}
+use Rattle.hk_values.specs.Pieces.{fragment_front, rows_of, answer_front, page_front}
 use Rattle.hk_wire.specs.LaterReplies as later
 use Rattle.hk_wire.specs.declared.later_reply.LaterReply.{LaterReply}
 use Rattle.hk_wire.specs.declared.reply.Reply.{Reply}
-use Rattle.hk_wire.specs.Replies.{ReplyValue, Done, Front, Fragment, Answer, Refused, Later, reply_body, reply_seen, reply_text, is_encodable}
+use Rattle.hk_wire.specs.Replies.{ReplyValue, Fragment, Answer, Later, reply_body, reply_seen, reply_text, is_encodable}
 use Rattle.hk_wire.specs.declared.reply_pieces.Place.{Place}
 
--- how many facts or rows a reply has, between which its encoding is divided
+-- how many facts or rows a reply has, between which its encoding is divided; the head of a last chunk counts as one more behind its
+-- facts
 abbrev pub later_count : later.ReplyValue → ℕ
 later_count (later.Latest t a) = length (rows_of a)
+later_count (later.Page page) = length page.rows
+later_count (later.Part left facts) = length facts
+later_count (later.LastPart facts head) = length facts + 1
 later_count other = 0
 
 abbrev pub count_of : ReplyValue → ℕ
@@ -26,6 +33,9 @@ count_of other = 0
 -- what its body has before them
 abbrev pub later_front : later.ReplyValue → List ℕ
 later_front (later.Latest t a) = number w64 t ++ answer_front a
+later_front (later.Page page) = page_front page
+later_front (later.Part left facts) = number w64 left ++ number w32 (length facts)
+later_front (later.LastPart facts head) = number w32 (length facts)
 later_front other = later.reply_body other
 
 abbrev pub body_front : ReplyValue → List ℕ
@@ -37,6 +47,9 @@ body_front other = reply_body other
 -- what it has from the one of this number on
 abbrev pub later_rest : later.ReplyValue → ℕ → List ℕ
 later_rest (later.Latest t a) n = flat_map keyed_text (drop n (rows_of a))
+later_rest (later.Page page) n = flat_map keyed_text (drop n page.rows)
+later_rest (later.Part left facts) n = flat_map fact_text (drop n facts)
+later_rest (later.LastPart facts head) n = flat_map fact_text (drop n facts) ++ (if nat_le n (length facts) then head_text head else [])
 later_rest other n = []
 
 abbrev pub rest_from : ReplyValue → ℕ → List ℕ
@@ -61,6 +74,10 @@ AddsItemsOf reply = AddsItems (reply_seen reply)
 
 abbrev pub AddsLaterItems : LaterReply → ℕ → ℕ → List ℕ → List ℕ → Type 0
 AddsLaterItems reply = AddsItems (Later (later.reply_seen reply))
+
+-- the same of a last chunk, by its facts and its head
+abbrev pub AddsLast : List Known → HeadValue → ℕ → ℕ → List ℕ → List ℕ → Type 0
+AddsLast facts head = AddsItems (Later (later.LastPart facts (wire_head_of head)))
 
 -- the same of the whole encoding from its start on
 pub record AddsFront (r : ReplyValue) (to : ℕ) (before after : List ℕ) : Type 0 where

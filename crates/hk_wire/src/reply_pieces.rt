@@ -1,6 +1,7 @@
 //! The one encoding of a reply, in pieces.
 
 ghost use Rattle.std.specs.Prelude.{◌≡◌, ◌≤◌, ◌<◌, ◌+◌, ◌-◌, ◌^◌, ◌++◌, true, length, take, OnOk, OnErr, IfOk, IfErr, IfSome, IfNone};
+ghost use Rattle.hk_values.specs.Parts.{head_is_counted, wire_head_of};
 ghost use Rattle.hk_wire.specs.LaterReplies as later;
 ghost use Rattle.hk_wire.specs.Replies as replies;
 ghost use Rattle.hk_wire.specs.Pieces as spec;
@@ -10,10 +11,13 @@ use crate::later_reply::LaterReply;
 use crate::later_reply_encoding::put_later;
 use crate::reply::Reply;
 use crate::reply_encoding::{kind_of, put_body, reply_len};
-use hk_frames::put_u64;
-use hk_types::{FormFault, Refusal};
-use hk_values::answer::{put_answer_front, put_answer_rows, row_count};
+use hk_frames::{put_u32, put_u64};
+use hk_log::Version;
+use hk_types::{FormFault, Refusal, VersionKey};
+use hk_values::FragmentHead;
+use hk_values::answer::{put_answer_front, put_answer_rows, put_rows_from, row_count};
 use hk_values::fragment_encoding::{put_facts_from, put_fragment_front};
+use hk_values::told::put_page_front;
 use std::alloc::AllocError;
 
 /// More than so many bytes of facts or rows end a piece.
@@ -46,12 +50,16 @@ impl Place {
     }
 }
 
-/// How many rows a reply of version 2 has, between which its encoding is divided.
+/// How many facts or rows a reply of version 2 has, between which its encoding is divided; the head of a last chunk counts as
+/// one more behind its facts.
 fn later_count(reply: &LaterReply) -> usize
     ensures { result ≡ spec.later_count (later.reply_seen reply.now) }
 {
     match reply {
         LaterReply::Latest { t: _, answer } => row_count(answer),
+        LaterReply::Page(page) => page.rows.len(),
+        LaterReply::Part { left: _, facts } => facts.len(),
+        LaterReply::LastPart { facts, head: _ } => facts.len() + 1,
         _ => 0,
     }
 }
@@ -68,7 +76,7 @@ fn count_of(reply: &Reply) -> usize
     }
 }
 
-/// Adds what the body of a reply of version 2 has before its rows.
+/// Adds what the body of a reply of version 2 has before its facts or rows.
 #[tactic(auto, using(std::proofs::Common::append_assoc, hk_frames::proofs::Prefix::kept_all, hk_frames::proofs::Prefix::kept_before, hk_frames::proofs::Prefix::kept_both))]
 fn put_later_front(out: &mut Vec<u8>, reply: &LaterReply) -> Result<(), AllocError>
     requires { later.keeps_rules (later.reply_seen reply.now) ≡ true }
@@ -80,6 +88,12 @@ fn put_later_front(out: &mut Vec<u8>, reply: &LaterReply) -> Result<(), AllocErr
             put_u64(out, t.number())?;
             put_answer_front(out, answer)
         }
+        LaterReply::Page(page) => put_page_front(out, page),
+        LaterReply::Part { left, facts } => {
+            put_u64(out, *left)?;
+            put_u32(out, facts.len() as u32)
+        }
+        LaterReply::LastPart { facts, head: _ } => put_u32(out, facts.len() as u32),
         _ => put_later(out, reply),
     }
 }
@@ -98,15 +112,44 @@ fn put_front(out: &mut Vec<u8>, reply: &Reply) -> Result<(), AllocError>
     }
 }
 
-/// Adds rows of a reply of version 2, as `put_some` does.
+/// Adds facts of a last chunk, and its head behind them, as `put_some` does.
+#[tactic(auto, using(hk_frames::proofs::Prefix::kept_all, hk_frames::proofs::Prefix::kept_both))]
+fn put_last_some(
+    out: &mut Vec<u8>,
+    facts: &[(VersionKey, Version)],
+    head: &FragmentHead,
+    from: usize,
+) -> Result<usize, AllocError>
+    requires counted { head_is_counted (wire_head_of head.now) ≡ true }
+    requires place { from ≤ length facts.now + 1 }
+    ensures ok { IfOk result (λ to. spec.AddsLast facts.now head.now from to
+        out.old.items out.new.items) }
+    ensures kept { OnErr result (take (length out.old.items) out.new.items ≡ out.old.items) }
+{
+    if from > facts.len() {
+        return Ok(from);
+    }
+    let to = put_facts_from(out, facts, from, MOST_PIECE_BYTES)?;
+    if to < facts.len() {
+        return Ok(to);
+    }
+    head.put_to(out)?;
+    Ok(to + 1)
+}
+
+/// Adds facts or rows of a reply of version 2, as `put_some` does.
 fn put_later_some(out: &mut Vec<u8>, reply: &LaterReply, from: usize) -> Result<usize, AllocError>
-    requires { from ≤ spec.later_count (later.reply_seen reply.now) }
+    requires rules { later.keeps_rules (later.reply_seen reply.now) ≡ true }
+    requires place { from ≤ spec.later_count (later.reply_seen reply.now) }
     ensures ok { IfOk result (λ to. spec.AddsLaterItems reply.now from to
         out.old.items out.new.items) }
     ensures kept { OnErr result (take (length out.old.items) out.new.items ≡ out.old.items) }
 {
     match reply {
         LaterReply::Latest { t: _, answer } => put_answer_rows(out, answer, from, MOST_PIECE_BYTES),
+        LaterReply::Page(page) => put_rows_from(out, &page.rows, from, MOST_PIECE_BYTES),
+        LaterReply::Part { left: _, facts } => put_facts_from(out, facts, from, MOST_PIECE_BYTES),
+        LaterReply::LastPart { facts, head } => put_last_some(out, facts, head, from),
         _ => Ok(from),
     }
 }
@@ -114,7 +157,8 @@ fn put_later_some(out: &mut Vec<u8>, reply: &LaterReply, from: usize) -> Result<
 /// Adds facts or rows from the one of this number on: all that are left, or as many as have more than 65,536 bytes. Returns the
 /// number of the next, which is how many there are where none is left.
 fn put_some(out: &mut Vec<u8>, reply: &Reply, from: usize) -> Result<usize, AllocError>
-    requires { from ≤ spec.count_of (replies.reply_seen reply.now) }
+    requires rules { replies.keeps_rules (replies.reply_seen reply.now) ≡ true }
+    requires place { from ≤ spec.count_of (replies.reply_seen reply.now) }
     ensures ok { IfOk result (λ to. spec.AddsItemsOf reply.now from to
         out.old.items out.new.items) }
     ensures kept { OnErr result (take (length out.old.items) out.new.items ≡ out.old.items) }
@@ -201,8 +245,9 @@ fn encode_next(reply: &Reply, from: Place, out: &mut Vec<u8>) -> Result<Option<P
 
 /// Adds the next piece of a reply's one encoding, which begins at this place, at the end, and returns where the one after it
 /// begins, or `None` where the reply is complete. A piece has more than 65,536 bytes, or is the last; it ends behind the first
-/// fact of a fragment, or row of an answer, with which its facts or rows have so many. What a reply has before these, as the
-/// head of a fragment, is in its first piece, and a reply of another kind is one piece. Pieces one after the other, from the
+/// fact of a fragment or a chunk, or row of an answer or a page, with which its facts or rows have so many. What a reply has
+/// before these, as the head of a fragment, is in its first piece, the head of a last chunk is in its last one, and a reply of
+/// another kind is one piece. Pieces one after the other, from the
 /// start on, are what `encode_reply` adds.
 ///
 /// The first piece tests and counts the reply: one that has no encoding is refused `Form(TooLong)`, as `encode_reply` says.
