@@ -100,7 +100,7 @@ def of_what_is_held():
         pairs = [("tables of a new node", link.tables(), [])]
         first = link.stats()
         pairs += [(f"metric {name} of a new node", first[name, 0], 0) for name in (ROWS, ENDS, BODY_BYTES, GUARDED, FAILED, PINS)]
-        link.ask(say.items(E1, E2, say.entry(3, 3, [(1, 6, 9, b"CDE"), (65_535, 0, 1, b""), (7, 2 ** 64 - 1, 1, b"x" * 100)]), say.mark(1, 3, 3)))
+        link.ask(say.items(E1, E2, say.entry(3, 3, [(1, 6, 9, b"CDE"), (7, 2 ** 64 - 1, 1, b"x" * 100), (65_535, 0, 1, b"")]), say.mark(1, 3, 3)))
         pairs.append(("tables", link.tables(), [1, 7, 65_535]))
         held = link.stats()
         # keys 5 (two rows), 6 of table 1, and one of each of the others
