@@ -122,8 +122,8 @@ fn put_last_some(
 ) -> Result<usize, AllocError>
     requires counted { head_is_counted (wire_head_of head.now) ≡ true }
     requires place { from ≤ length facts.now + 1 }
-    ensures ok { IfOk result (λ to. spec.AddsItems (replies.Later (later.LastPart facts.now (wire_head_of head.now))) from to
-        out.old.items out.new.items) }
+    ensures ok { IfOk result (λ to. spec.AddsItems (replies.Later (later.LastPart facts.now (wire_head_of head.now)))
+        from to out.old.items out.new.items) }
     ensures kept { OnErr result (take (length out.old.items) out.new.items ≡ out.old.items) }
 {
     if from > facts.len() {
@@ -211,7 +211,8 @@ fn place_behind(
 
 /// The first piece, as `encode_piece` adds it.
 fn encode_first(reply: &Reply, out: &mut Vec<u8>) -> Result<Option<Place>, Refusal>
-    ensures ok { IfOk result (λ next. spec.AddsPiece (replies.reply_seen reply.now) 0 next out.old.items out.new.items) }
+    ensures ok { IfOk result (λ next. spec.AddsPiece (replies.reply_seen reply.now) 0 next
+        out.old.items out.new.items) }
     ensures err { OnErr result (out.new.items ≡ out.old.items) }
     ensures why { IfErr result (λ why. replies.IsRefusedAs reply.now why) }
 {
