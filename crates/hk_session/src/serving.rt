@@ -160,15 +160,17 @@ pub fn serve_waiting<const LATEST: u8, R: Read, W: Write, H: Host, T: Waiter>(
 /// `Refused` with the number of its fault, after the replies to the requests before it, and ends the session: so does a
 /// request of a version above `LATEST`, which is 1 or 2, with `BadVersion`. A reply is written as its encoding, and where it
 /// has none as `Refused` with 2, in its version; a malformed request is answered in version 1, whatever was asked. The
-/// replies to the requests of one read are written together, or as soon as they have more than 65,536 bytes. Where memory for
-/// the session's own buffers runs out, what is ready is written and nothing more, and the last requests may stay unanswered.
+/// replies to the requests of one read are written together, or as soon as they have more than 65,536 bytes; a long reply is
+/// written in pieces of some 65,536 bytes, so no second copy of it is made. Where memory for the session's own buffers runs
+/// out, what is ready is written and nothing more: the last requests may stay unanswered, and a long reply may be cut off.
 /// A failed write, or one that takes 0 bytes, ends it, and so does a failed read, an interrupted one too; so does the read
 /// number 2^32, where it does not end otherwise. Of the requests that were executed the last may be without a reply after a
 /// failed write, or where memory ran out, and before it others, whose replies have together at most 65,536 bytes: none beyond
 /// these is executed. The writer is never flushed: who hands in one that keeps bytes back flushes it after.
 ///
 /// The host has to be ready (`Host::ready`), and is left ready, as the last request that it answered left it. Cost: that of
-/// the answers, a copy of each reply, and a pass over what is read; up to 65,536 bytes are read at a time.
+/// the answers, what is written, of each reply two passes that test and count it, and a pass over what is read; up to 65,536
+/// bytes are read at a time.
 pub fn serve<const LATEST: u8, R: Read, W: Write, H: Host>(
     alloc: Global,
     reader: &mut Counted<R>,
@@ -227,7 +229,7 @@ fn run_bytes<const LATEST: u8, W: Write, H: Host>(
 
 /// Answers the requests that these bytes encode, as a session that `serve` has with a reader of them, and makes no
 /// buffer to read into. All bytes are one piece: the replies are written together, or as soon as they have more than
-/// 65,536 bytes. Cost: that of the answers, a copy of each reply, and a pass over the bytes.
+/// 65,536 bytes. Cost: that of the answers, what is written, of each reply two passes, and a pass over the bytes.
 pub fn serve_bytes<const LATEST: u8, W: Write, H: Host>(
     alloc: Global,
     bytes: &[u8],
