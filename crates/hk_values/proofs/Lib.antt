@@ -15,5 +15,7 @@ pub mod FragmentFits
 pub mod ToldLengths
 pub mod PartsReadAgain
 pub mod ToldReadAgain
+pub mod MetricLengths
+pub mod MetricsReadAgain
 pub mod CutParts
 pub mod OwnParts

@@ -6,4 +6,5 @@ pub mod Fragments
 pub mod FragmentSteps
 pub mod Parts
 pub mod Told
+pub mod Metrics
 pub mod Cutting

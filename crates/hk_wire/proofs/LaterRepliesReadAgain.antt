@@ -15,12 +15,15 @@ use Rattle.hk_values.specs.Fragments.{facts_text}
 use Rattle.hk_values.specs.Refusals.{later_refusal_at}
 use Rattle.hk_values.specs.Parts.{WireHead, head_text, head_at, head_is_counted, HeadFits, part_at, part_keeps_rules, PartFits}
 use Rattle.hk_values.specs.Told.{page_at, streams_at}
+use Rattle.hk_values.specs.Metrics.{metrics_at, tables_at}
+use Rattle.hk_values.specs.declared.metrics.Metric.{Metric}
 use Rattle.hk_values.proofs.ReadersAndEncodings.{IsField, field64, time_field, positive_field, ops_field, front_field, both_field, this_or, made_takes, made_again}
 use Rattle.hk_values.proofs.AnswersReadAgain.{answer_field, AnswerKeeps}
 use Rattle.hk_values.proofs.PartsReadAgain.{head_field, part_field}
 use Rattle.hk_values.proofs.ToldReadAgain.{page_field, streams_field}
+use Rattle.hk_values.proofs.MetricsReadAgain.{metrics_field, tables_field}
 use Rattle.hk_values.proofs.RefusalsReadAgain.{later_refusal_field}
-use Rattle.hk_wire.specs.LaterReplies.{ReplyValue, Done, Streams, Latest, Page, Part, LastPart, Added, Held, Refused, Fed, Ready, reply_kind, reply_body, keeps_rules, ReplyFits, part_reply_of, reply_of}
+use Rattle.hk_wire.specs.LaterReplies.{ReplyValue, Done, Streams, Latest, Page, Part, LastPart, Added, Held, Refused, Fed, Ready, Stats, Tables, reply_kind, reply_body, keeps_rules, ReplyFits, part_reply_of, reply_of}
 
 latest_field : IsField (both time_at answer_at) (λ p. number w64 p.0 ++ answer_text p.1) (λ p. (p.0 ≤ 2 ^ 62) × AnswerKeeps p.1)
 latest_field = both_field time_at answer_at (number w64) answer_text (λ n. n ≤ 2 ^ 62) AnswerKeeps time_field answer_field
@@ -84,6 +87,12 @@ fed_of p = Fed p.0 p.1
 abbrev ready_of : ℕ × ℕ → ReplyValue
 ready_of p = Ready p.0 p.1
 
+abbrev stats_of : List Metric → ReplyValue
+stats_of metrics = Stats metrics
+
+abbrev tables_of : List ℕ → ReplyValue
+tables_of tables = Tables tables
+
 abbrev pub Keeps : ReplyValue → Type 0
 Keeps r = ReplyFits r × (keeps_rules r ≡ true)
 
@@ -126,7 +135,11 @@ reply_takes k bytes x fits e =
     (λ is f. made_takes page_of page_at _ _ page_field reply_kind reply_body Keeps k (λ a. sym is) (λ a. refl) (λ a h. h) bytes x fits f)
     (λ e4. this_or k 74 _ _ x (IsReplyOf k bytes x) e4
     (λ is f. made_takes ready_of front_at _ _ front_field reply_kind reply_body Keeps k (λ a. sym is) (λ a. refl) (λ a h. h) bytes x fits f)
-    (λ e5. part_reply_takes k bytes x fits e5)))))
+    (λ e5. this_or k 75 _ _ x (IsReplyOf k bytes x) e5
+    (λ is f. made_takes stats_of metrics_at _ _ metrics_field reply_kind reply_body Keeps k (λ a. sym is) (λ a. refl) (λ a h. h) bytes x fits f)
+    (λ e6. this_or k 76 _ _ x (IsReplyOf k bytes x) e6
+    (λ is f. made_takes tables_of tables_at _ _ tables_field reply_kind reply_body Keeps k (λ a. sym is) (λ a. refl) (λ a h. h) bytes x fits f)
+    (λ e7. part_reply_takes k bytes x fits e7)))))))
 
 pub reply_again : (r : ReplyValue) (rest : List ℕ) → Keeps r → reply_of (reply_kind r) (reply_body r ++ rest) ≡ Ok (r, rest)
 unfolding reply_of part_reply_of
@@ -145,3 +158,5 @@ reply_again (Held hold t) rest h = made_again held_of (both positive_at time_at)
 reply_again (Refused why) rest h = made_again refused_of later_refusal_at _ _ later_refusal_field why rest h
 reply_again (Fed ops new) rest h = made_again fed_of (both ops_at (number_at w64)) _ _ fed_field (ops, new) rest ((h.0.0, h.1), h.0.1)
 reply_again (Ready horizon readable) rest h = made_again ready_of front_at _ _ front_field (horizon, readable) rest h
+reply_again (Stats metrics) rest h = made_again stats_of metrics_at _ _ metrics_field metrics rest h
+reply_again (Tables tables) rest h = made_again tables_of tables_at _ _ tables_field tables rest h

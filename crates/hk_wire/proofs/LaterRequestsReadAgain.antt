@@ -13,7 +13,7 @@ use Rattle.hk_values.specs.Parts.{WireHead, head_at, whole_head_at, part_at}
 use Rattle.hk_values.proofs.ReadersAndEncodings.{IsField, field16, field32, field64, time_field, positive_field, not_zero, both_field, barred_field, kept_field, same_field, this_or, made_takes, nothing_takes, made_again}
 use Rattle.hk_values.proofs.QueriesReadAgain.{query_field}
 use Rattle.hk_values.proofs.PartsReadAgain.{head_field, whole_head_field, part_field}
-use Rattle.hk_wire.specs.LaterRequests.{RequestValue, Streams, AskLatest, Page, Whole, More, AddPart, JoinParts, MergeParts, Hold, Release, Await, request_kind, request_body, keeps_rules, RequestFits, most_at, wait_at, page_at, change_of, request_of}
+use Rattle.hk_wire.specs.LaterRequests.{RequestValue, Streams, AskLatest, Page, Whole, More, AddPart, JoinParts, MergeParts, Hold, Release, Await, Stats, Tables, request_kind, request_body, keeps_rules, RequestFits, most_at, wait_at, page_at, change_of, request_of}
 
 most_field : IsField most_at (number w32) (λ n. (n < 2 ^ 32) × (not (eqb n 0) ≡ true))
 unfolding most_at
@@ -118,7 +118,11 @@ request_takes k bytes x fits e =
     (λ is f. nothing_takes More request_kind request_body Keeps k (sym is) refl (tt, refl) bytes x fits f)
     (λ e5. this_or k 59 _ _ x (IsRequestOf k bytes x) e5
     (λ is f. made_takes await_of (both time_at wait_at) _ _ await_field request_kind request_body Keeps k (λ a. sym is) (λ a. refl) (λ a h. ((h.0, h.1.0), h.1.1)) bytes x fits f)
-    (λ e6. change_takes k bytes x fits e6))))))
+    (λ e6. this_or k 60 _ _ x (IsRequestOf k bytes x) e6
+    (λ is f. nothing_takes Stats request_kind request_body Keeps k (sym is) refl (tt, refl) bytes x fits f)
+    (λ e7. this_or k 61 _ _ x (IsRequestOf k bytes x) e7
+    (λ is f. nothing_takes Tables request_kind request_body Keeps k (sym is) refl (tt, refl) bytes x fits f)
+    (λ e8. change_takes k bytes x fits e8))))))))
 
 pub request_again : (r : RequestValue) (rest : List ℕ) → Keeps r → request_of (request_kind r) (request_body r ++ rest) ≡ Ok (r, rest)
 unfolding request_of change_of page_at
@@ -133,3 +137,5 @@ request_again (MergeParts head) rest h = made_again merge_of whole_head_at _ _ w
 request_again (Hold t) rest h = made_again hold_of time_at _ _ time_field t rest h.0
 request_again (Release hold) rest h = made_again release_of positive_at _ _ positive_field hold rest h
 request_again (Await t milliseconds) rest h = made_again await_of (both time_at wait_at) _ _ await_field (t, milliseconds) rest (h.0.0, (h.0.1, h.1))
+request_again Stats rest h = refl
+request_again Tables rest h = refl

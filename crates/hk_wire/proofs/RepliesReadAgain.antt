@@ -16,7 +16,7 @@ use Rattle.hk_values.proofs.AnswersReadAgain.{answer_field}
 use Rattle.hk_values.proofs.FragmentsReadAgain.{fragment_field}
 use Rattle.hk_values.proofs.RefusalsReadAgain.{refusal_field}
 use Rattle.hk_wire.specs.Messages.{message_text, message_at}
-use Rattle.hk_wire.specs.LaterReplies.{Done as LaterDone, Streams, Latest, Page, Part, LastPart, Added, Held, Refused as LaterRefused, Fed, Ready}
+use Rattle.hk_wire.specs.LaterReplies.{Done as LaterDone, Streams, Latest, Page, Part, LastPart, Added, Held, Refused as LaterRefused, Fed, Ready, Stats, Tables}
 use Rattle.hk_wire.specs.LaterReplies as later
 use Rattle.hk_wire.specs.Replies.{ReplyValue, Done, Front as Told, Fragment, Answer, Refused, Later, reply_kind, reply_body, reply_rest, keeps_rules, ReplyFits, IsReply, reply_of, reply_at}
 use Rattle.hk_wire.proofs.MessagesReadAgain.{at_most_two, IsMessage, message_format, same_format}
@@ -89,6 +89,8 @@ reply_again (Later (Held hold t)) rest h = later_again (Held hold t) rest h
 reply_again (Later (LaterRefused why)) rest h = later_again (LaterRefused why) rest h
 reply_again (Later (Fed ops new)) rest h = later_again (Fed ops new) rest h
 reply_again (Later (Ready horizon readable)) rest h = later_again (Ready horizon readable) rest h
+reply_again (Later (Stats metrics)) rest h = later_again (Stats metrics) rest h
+reply_again (Later (Tables tables)) rest h = later_again (Tables tables) rest h
 
 pub replies_are_sound : IsFormat 2 268435456 reply_at reply_rest IsReply
 unfolding reply_at reply_rest

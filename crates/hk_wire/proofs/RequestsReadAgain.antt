@@ -23,7 +23,7 @@ use Rattle.hk_values.proofs.ReadersAndEncodings.{IsField, field32, time_field, b
 use Rattle.hk_values.proofs.QueriesReadAgain.{query_field}
 use Rattle.hk_values.proofs.FragmentsReadAgain.{fragment_field, whole_field}
 use Rattle.hk_wire.specs.Messages.{message_text, message_at}
-use Rattle.hk_wire.specs.LaterRequests.{Streams, AskLatest, Page, Whole, More, AddPart, JoinParts, MergeParts, Hold, Release, Await}
+use Rattle.hk_wire.specs.LaterRequests.{Streams, AskLatest, Page, Whole, More, AddPart, JoinParts, MergeParts, Hold, Release, Await, Stats, Tables}
 use Rattle.hk_wire.specs.LaterRequests as later
 use Rattle.hk_wire.specs.Requests.{WrittenRequest, Items, Front, Delta, Full, Ask, JoinThis, MergeThis, Prune, Feed, Later, frame_taken, item_frame_at, item_count_at, no_place, items_at, keeps_rules, request_kind, request_body, request_rest, RequestFits, IsRequest, IsRequestUpTo, request_of, request_at}
 use Rattle.hk_wire.proofs.MessagesReadAgain.{at_most_two, IsMessage, message_format, same_format}
@@ -168,6 +168,8 @@ request_again (Later (MergeParts head)) rest h = later_again (MergeParts head) r
 request_again (Later (Hold t)) rest h = later_again (Hold t) rest h
 request_again (Later (Release hold)) rest h = later_again (Release hold) rest h
 request_again (Later (Await t milliseconds)) rest h = later_again (Await t milliseconds) rest h
+request_again (Later Stats) rest h = later_again Stats rest h
+request_again (Later Tables) rest h = later_again Tables rest h
 
 -- those of versions up to the latest that is read
 pub requests_up_to : (latest : ℕ) → IsFormat 2 268435456 (request_at latest) request_rest (IsRequestUpTo latest)

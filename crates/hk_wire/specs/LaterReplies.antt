@@ -14,6 +14,8 @@ use Rattle.hk_values.specs.Fragments.{facts_text}
 use Rattle.hk_values.specs.Refusals.{refusal_text, RefusalFits, is_told, later_refusal_at}
 use Rattle.hk_values.specs.Parts.{WireHead, wire_head_of, head_text, head_at, head_is_counted, HeadFits, part_at, part_keeps_rules, PartFits}
 use Rattle.hk_values.specs.Told.{page_text, page_at, page_keeps_rules, PageFits, streams_text, streams_at, streams_keep_rules, StreamsFit}
+use Rattle.hk_values.specs.Metrics.{metrics_text, metrics_at, metrics_keep_rules, MetricsFit, tables_text, tables_at, tables_keep_rules, TablesFit}
+use Rattle.hk_values.specs.declared.metrics.Metric.{Metric}
 use Rattle.hk_wire.specs.declared.later_reply.LaterReply.{LaterReply}
 use Rattle.hk_wire.specs.declared.later_reply.LaterReply.TheVariants as replied
 
@@ -30,6 +32,8 @@ pub data ReplyValue : Type 0 where
   Refused : Refusal → ReplyValue
   Fed : ℕ → ℕ → ReplyValue
   Ready : ℕ → ℕ → ReplyValue
+  Stats : List Metric → ReplyValue
+  Tables : List ℕ → ReplyValue
 
 -- the value that a `LaterReply` has
 abbrev pub reply_seen : LaterReply → ReplyValue
@@ -44,6 +48,8 @@ reply_seen (replied.Held hold t) = Held hold t
 reply_seen (replied.Refused why) = Refused why
 reply_seen (replied.Fed ops new) = Fed ops new
 reply_seen (replied.Ready horizon readable) = Ready horizon readable
+reply_seen (replied.Stats metrics) = Stats metrics.items
+reply_seen (replied.Tables tables) = Tables tables.items
 
 -- the kind byte of a reply
 abbrev pub reply_kind : ReplyValue → ℕ
@@ -58,6 +64,8 @@ reply_kind (Held hold t) = 71
 reply_kind (Refused why) = 72
 reply_kind (Fed ops new) = 73
 reply_kind (Ready horizon readable) = 74
+reply_kind (Stats metrics) = 75
+reply_kind (Tables tables) = 76
 
 -- its body
 abbrev pub reply_body : ReplyValue → List ℕ
@@ -72,6 +80,8 @@ reply_body (Held hold t) = number w64 hold ++ number w64 t
 reply_body (Refused why) = refusal_text why
 reply_body (Fed ops new) = number w64 ops ++ number w64 new
 reply_body (Ready horizon readable) = number w64 horizon ++ number w64 readable
+reply_body (Stats metrics) = metrics_text metrics
+reply_body (Tables tables) = tables_text tables
 
 -- whether a reply keeps the rules of its kind
 abbrev pub keeps_rules : ReplyValue → Bool
@@ -86,6 +96,8 @@ keeps_rules (Held hold t) = not (hold == 0)
 keeps_rules (Refused why) = is_told why
 keeps_rules (Fed ops new) = is_ops ops
 keeps_rules (Ready horizon readable) = nat_le horizon readable
+keeps_rules (Stats metrics) = metrics_keep_rules metrics
+keeps_rules (Tables tables) = tables_keep_rules tables
 
 -- a reply whose numbers fit their fields
 abbrev pub ReplyFits : ReplyValue → Type 0
@@ -100,6 +112,8 @@ ReplyFits (Held hold t) = (hold < 2 ^ 64) × (t ≤ 2 ^ 62)
 ReplyFits (Refused why) = RefusalFits why
 ReplyFits (Fed ops new) = (ops < 2 ^ 64) × (new < 2 ^ 64)
 ReplyFits (Ready horizon readable) = (horizon ≤ 2 ^ 62) × (readable ≤ 2 ^ 62)
+ReplyFits (Stats metrics) = MetricsFit metrics
+ReplyFits (Tables tables) = TablesFit tables
 
 -- the body of a kind of parts, of holds, of refusals, or of what was fed
 unfoldable pub part_reply_of : ℕ → Reader ReplyValue
@@ -120,4 +134,6 @@ reply_of kind bytes =
     else if kind == 66 then mapped_value (λ p. Latest p.0 p.1) (both time_at answer_at) bytes
     else if kind == 67 then mapped_value (λ page. Page page) page_at bytes
     else if kind == 74 then mapped_value (λ p. Ready p.0 p.1) front_at bytes
+    else if kind == 75 then mapped_value (λ metrics. Stats metrics) metrics_at bytes
+    else if kind == 76 then mapped_value (λ tables. Tables tables) tables_at bytes
     else part_reply_of kind bytes

@@ -25,6 +25,8 @@ pub data RequestValue : Type 0 where
   Hold : ℕ → RequestValue
   Release : ℕ → RequestValue
   Await : ℕ → ℕ → RequestValue
+  Stats : RequestValue
+  Tables : RequestValue
 
 -- the value that a `LaterRequest` has
 abbrev pub request_seen : LaterRequest → RequestValue
@@ -39,6 +41,8 @@ request_seen (asked.MergeParts head) = MergeParts (wire_head_of head)
 request_seen (asked.Hold t) = Hold t
 request_seen (asked.Release hold) = Release hold
 request_seen (asked.Await t milliseconds) = Await t milliseconds
+request_seen asked.Stats = Stats
+request_seen asked.Tables = Tables
 
 -- the kind byte of a request
 abbrev pub request_kind : RequestValue → ℕ
@@ -53,6 +57,8 @@ request_kind (MergeParts head) = 55
 request_kind (Hold t) = 56
 request_kind (Release hold) = 57
 request_kind (Await t milliseconds) = 59
+request_kind Stats = 60
+request_kind Tables = 61
 
 -- its body
 abbrev pub request_body : RequestValue → List ℕ
@@ -67,6 +73,8 @@ request_body (MergeParts head) = head_text head
 request_body (Hold t) = number w64 t
 request_body (Release hold) = number w64 hold
 request_body (Await t milliseconds) = number w64 t ++ number w32 milliseconds
+request_body Stats = []
+request_body Tables = []
 
 -- whether a request keeps the rules of its kind
 abbrev pub keeps_rules : RequestValue → Bool
@@ -91,6 +99,8 @@ RequestFits (MergeParts head) = HeadFits head
 RequestFits (Hold t) = t ≤ 2 ^ 62
 RequestFits (Release hold) = hold < 2 ^ 64
 RequestFits (Await t milliseconds) = (t ≤ 2 ^ 62) × (milliseconds < 2 ^ 32)
+RequestFits Stats = Unit {0}
+RequestFits Tables = Unit {0}
 
 -- the most rows that are wanted, 1 at least
 unfoldable pub most_at : Reader ℕ
@@ -125,4 +135,6 @@ request_of kind bytes =
     else if kind == 51 then mapped_value (λ p. Whole p.0 p.1) (both time_at (number_at w32)) bytes
     else if kind == 52 then nothing More bytes
     else if kind == 59 then mapped_value (λ p. Await p.0 p.1) (both time_at wait_at) bytes
+    else if kind == 60 then nothing Stats bytes
+    else if kind == 61 then nothing Tables bytes
     else change_of kind bytes

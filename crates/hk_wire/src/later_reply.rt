@@ -6,14 +6,15 @@ ghost use Rattle.hk_wire.specs.LaterReplies as spec;
 use hk_frames::{Cursor, ReadError};
 use hk_log::Version;
 use hk_model::{Answer, Front, Page, StreamsTold};
-use hk_types::{FormFault, Refusal, Time, VersionKey};
-use hk_values::FragmentHead;
+use hk_types::{FormFault, Refusal, Table, Time, VersionKey};
 use hk_values::answer::read_answer;
 use hk_values::fragment_head::read_head;
+use hk_values::metrics::{read_metrics, read_tables};
 use hk_values::numbers::{read_front, read_ops, read_positive, read_time};
 use hk_values::part::read_part;
 use hk_values::refusal::read_later_refusal;
 use hk_values::told::{read_page, read_streams_told};
+use hk_values::{FragmentHead, Metric};
 use std::alloc::Global;
 
 /// What a node replies in version 2.
@@ -61,6 +62,10 @@ pub enum LaterReply {
         horizon: Time,
         readable: Time,
     },
+    /// Numbers of what the node holds and did, which rise strictly by name and label. Who doesn't know a name skips it.
+    Stats(Vec<Metric>),
+    /// The tables of which it holds anything, which rise strictly.
+    Tables(Vec<Table>),
     /// Why nothing happened.
     Refused(Refusal),
 }
@@ -87,6 +92,10 @@ pub(crate) const REFUSED: u8 = 72;
 pub(crate) const FED: u8 = 73;
 
 pub(crate) const READY: u8 = 74;
+
+pub(crate) const STATS: u8 = 75;
+
+pub(crate) const TABLES: u8 = 76;
 
 /// Reads the body of a kind of chunks, of pins, of refusals, or of what was fed.
 #[tactic(auto, unfolding(crate::specs::LaterReplies::part_reply_of))]
@@ -156,6 +165,14 @@ pub(crate) fn read_later(
         READY => {
             let Front { horizon, readable } = read_front(cursor)?;
             Ok(LaterReply::Ready { horizon, readable })
+        }
+        STATS => {
+            let metrics = read_metrics(alloc, cursor)?;
+            Ok(LaterReply::Stats(metrics))
+        }
+        TABLES => {
+            let tables = read_tables(alloc, cursor)?;
+            Ok(LaterReply::Tables(tables))
         }
         _ => read_part_reply(alloc, cursor, kind),
     }

@@ -4,12 +4,16 @@ ghost use Rattle.std.specs.Prelude.{◌≡◌, ◌≤◌, ◌^◌, ◌++◌, tru
 ghost use Rattle.hk_wire.specs.LaterReplies as spec;
 
 use crate::later_reply::{
-    ADDED, DONE, FED, HELD, LAST_PART, LATEST, LaterReply, PAGE, PART, READY, REFUSED, STREAMS,
+    ADDED, DONE, FED, HELD, LAST_PART, LATEST, LaterReply, PAGE, PART, READY, REFUSED, STATS,
+    STREAMS, TABLES,
 };
 use hk_frames::put_u64;
 use hk_values::answer::{answer_len, keeps_answer_rules, put_answer};
 use hk_values::field_len::{number_len, time_len};
 use hk_values::fragment_encoding::put_facts;
+use hk_values::metrics::{
+    keeps_metrics_rules, keeps_tables_rules, metrics_len, put_metrics, put_tables, tables_len,
+};
 use hk_values::numbers::is_ops;
 use hk_values::part::{keeps_part_rules, part_len};
 use hk_values::refusal::{is_told, put_refusal, refusal_len};
@@ -34,6 +38,8 @@ pub(crate) fn later_kind(reply: &LaterReply) -> u8
         LaterReply::Refused(_) => REFUSED,
         LaterReply::Fed { .. } => FED,
         LaterReply::Ready { .. } => READY,
+        LaterReply::Stats(_) => STATS,
+        LaterReply::Tables(_) => TABLES,
     }
 }
 
@@ -53,6 +59,8 @@ pub(crate) fn later_keeps_rules(reply: &LaterReply) -> bool
         LaterReply::Refused(why) => is_told(*why),
         LaterReply::Fed { ops, .. } => is_ops(*ops),
         LaterReply::Ready { horizon, readable } => horizon.number() <= readable.number(),
+        LaterReply::Stats(metrics) => keeps_metrics_rules(metrics),
+        LaterReply::Tables(tables) => keeps_tables_rules(tables),
     }
 }
 
@@ -76,6 +84,8 @@ pub(crate) fn later_body_len(reply: &LaterReply) -> u64
         LaterReply::Refused(why) => refusal_len(*why),
         LaterReply::Fed { ops, new } => number_len(*ops) + number_len(*new),
         LaterReply::Ready { horizon, readable } => time_len(*horizon) + time_len(*readable),
+        LaterReply::Stats(metrics) => metrics_len(metrics),
+        LaterReply::Tables(tables) => tables_len(tables),
     }
 }
 
@@ -116,5 +126,7 @@ pub(crate) fn put_later(out: &mut Vec<u8>, reply: &LaterReply) -> Result<(), All
             put_u64(out, horizon.number())?;
             put_u64(out, readable.number())
         }
+        LaterReply::Stats(metrics) => put_metrics(out, metrics),
+        LaterReply::Tables(tables) => put_tables(out, tables),
     }
 }

@@ -58,6 +58,10 @@ pub enum LaterRequest {
         t: Time,
         milliseconds: u32,
     },
+    /// Numbers of what the node holds and did.
+    Stats,
+    /// The tables of which it holds anything.
+    Tables,
 }
 
 /// The kind bytes.
@@ -82,6 +86,10 @@ pub(crate) const HOLD: u8 = 56;
 pub(crate) const RELEASE: u8 = 57;
 
 pub(crate) const AWAIT: u8 = 59;
+
+pub(crate) const STATS: u8 = 60;
+
+pub(crate) const TABLES: u8 = 61;
 
 /// The most milliseconds that may be waited.
 pub const MOST_MILLISECONDS: u32 = 600_000;
@@ -189,6 +197,8 @@ pub(crate) fn read_later(
             let milliseconds = read_wait(cursor)?;
             Ok(LaterRequest::Await { t, milliseconds })
         }
+        STATS => Ok(LaterRequest::Stats),
+        TABLES => Ok(LaterRequest::Tables),
         _ => read_change(alloc, cursor, kind),
     }
 }

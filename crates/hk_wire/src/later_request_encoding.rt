@@ -5,7 +5,7 @@ ghost use Rattle.hk_wire.specs.LaterRequests as spec;
 
 use crate::later_request::{
     ADD_PART, ASK_LATEST, AWAIT, HOLD, JOIN_PARTS, LaterRequest, MERGE_PARTS, MORE,
-    MOST_MILLISECONDS, PAGE, RELEASE, STREAMS, WHOLE,
+    MOST_MILLISECONDS, PAGE, RELEASE, STATS, STREAMS, TABLES, WHOLE,
 };
 use hk_frames::{put_u16, put_u32, put_u64};
 use hk_values::field_len::{key_len, number_len, table_len, time_len};
@@ -30,6 +30,8 @@ pub(crate) fn later_kind(request: &LaterRequest) -> u8
         LaterRequest::Hold { .. } => HOLD,
         LaterRequest::Release { .. } => RELEASE,
         LaterRequest::Await { .. } => AWAIT,
+        LaterRequest::Stats => STATS,
+        LaterRequest::Tables => TABLES,
     }
 }
 
@@ -65,7 +67,8 @@ pub(crate) fn later_body_len(request: &LaterRequest) -> u64
     ensures fits { spec.RequestFits (spec.request_seen request.now) }
 {
     match request {
-        LaterRequest::Streams | LaterRequest::More => 0,
+        LaterRequest::Streams | LaterRequest::More | LaterRequest::Stats | LaterRequest::Tables =>
+            0,
         LaterRequest::AskLatest { query } => query_len(query),
         LaterRequest::Page {
             t,
@@ -94,7 +97,8 @@ pub(crate) fn put_later(out: &mut Vec<u8>, request: &LaterRequest) -> Result<(),
     ensures kept { OnErr result (take (length out.old.items) out.new.items ≡ out.old.items) }
 {
     match request {
-        LaterRequest::Streams | LaterRequest::More => Ok(()),
+        LaterRequest::Streams | LaterRequest::More | LaterRequest::Stats | LaterRequest::Tables =>
+            Ok(()),
         LaterRequest::AskLatest { query } => put_query(out, query),
         LaterRequest::Page {
             t,
