@@ -3,9 +3,9 @@ use Rattle.std.specs.Prelude.{ℕ, Bool, true, false, ◌&&◌, ◌||◌, ◌==�
 use Rattle.hk_doors.specs.declared.passes.Passes.{Passes}
 use Rattle.hk_doors.specs.declared.passes.Passes.TheVariants.{All, Feeds, Readings}
 
--- the kinds of requests that change nothing: Front, Delta, Full and Ask; Streams, AskLatest, Page, Whole and More; Await
+-- the kinds of requests that change nothing: Front, Delta, Full and Ask; Streams, AskLatest, Page, Whole and More; Await, Stats and Tables
 abbrev pub is_reading : ℕ → Bool
-is_reading kind = (nat_le 17 kind && nat_le kind 20) || (nat_le 48 kind && nat_le kind 52) || (kind == 59)
+is_reading kind = (nat_le 17 kind && nat_le kind 20) || (nat_le 48 kind && nat_le kind 52) || (nat_le 59 kind && nat_le kind 61)
 
 -- the kinds of requests to take items: Items and Feed
 abbrev pub is_feeding : ℕ → Bool

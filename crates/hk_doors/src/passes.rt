@@ -18,8 +18,10 @@ const FIRST_LATER_READING: u8 = 48;
 
 const LAST_LATER_READING: u8 = 52;
 
-/// That of the request to reply once a time is readable.
+/// Those of the request to reply once a time is readable, and of Stats and Tables.
 const AWAIT: u8 = 59;
+
+const TABLES: u8 = 61;
 
 /// How many bytes the frame of a request that changes nothing has behind its length at most: the longest has 32.
 const MOST_READING_BYTES: u64 = 64;
@@ -75,5 +77,5 @@ fn is_reading(kind: u8) -> bool
 {
     (kind >= FIRST_READING && kind <= LAST_READING)
         || (kind >= FIRST_LATER_READING && kind <= LAST_LATER_READING)
-        || kind == AWAIT
+        || (kind >= AWAIT && kind <= TABLES)
 }

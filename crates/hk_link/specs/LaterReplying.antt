@@ -20,14 +20,17 @@ use Rattle.hk_wire.specs.declared.reply.Reply.TheVariants as first_told
 use Rattle.hk_wire.specs.Replies as first
 use Rattle.hk_wire.specs.declared.later_request.LaterRequest.{LaterRequest}
 use Rattle.hk_wire.specs.declared.later_request.LaterRequest.TheVariants as asked
-use Rattle.hk_wire.specs.LaterReplies.{ReplyValue, Done, Streams, Latest, Page, Added, Held, Ready, Refused, reply_seen}
+use Rattle.hk_wire.specs.LaterReplies.{ReplyValue, Done, Streams, Latest, Page, Added, Held, Ready, Stats, Tables, Refused, reply_seen}
 use Rattle.hk_oplog.specs.declared.op.Hold.{Hold}
+use Rattle.hk_oplog.specs.declared.sizes.NodeSizes.{NodeSizes}
 use Rattle.hk_oplog.specs.NodeContent.{NodeContent}
 use Rattle.hk_oplog.specs.Replay.{is_legal, replay}
 use Rattle.hk_oplog.specs.Replies.{node_front, node_latest, node_page, node_streams}
 use Rattle.hk_link.specs.LinkStates.{LinkValue, OutgoingValue, more_step, whole_step, held_by, is_other_hold}
 use Rattle.hk_link.specs.Budgets.{most_pins}
+use Rattle.hk_link.specs.NodeNumbers.{AreSizesOf, AreTablesOf, sizes_metrics}
 use Rattle.hk_link.specs.NodeSides.{Sided, cut_of}
+use Rattle.hk_values.specs.declared.metrics.Metric.{Metric}
 
 -- what the node of a host for version 1 holds, by the list that its seat knows
 abbrev pub content_of : {S : Type 0} → Sided S → LinkValue S → NodeContent
@@ -78,6 +81,22 @@ page_reply c t table low high most = page_told (node_page c t table low high mos
 -- the host's seat looked at its node, nothing else of the link changed, and this is told of what the node holds
 abbrev pub Looks : {S : Type 0} → Sided S → LinkValue S → (NodeContent → ReplyValue) → ReplyValue → LinkValue S → Type 0
 Looks side old wanted reply new = Grows side old.inner new.inner × KeepsOther old new × IsOrMemory (wanted (content_of side new)) reply
+
+-- numbers are told that begin with these, or memory ran out
+abbrev pub TellsSizes : NodeSizes → ReplyValue → Type 0
+TellsSizes sizes reply = ((metrics : List Metric) × IsPrefix (sizes_metrics sizes) metrics × (reply ≡ Stats metrics)) ⊎ (reply ≡ Refused refusals.Memory)
+
+-- so it is of numbers that agree with what a node holds
+abbrev pub TellsNumbers : NodeContent → ReplyValue → Type 0
+TellsNumbers c reply = ((sizes : NodeSizes) × AreSizesOf c sizes × TellsSizes sizes reply) ⊎ (reply ≡ Refused refusals.Memory)
+
+-- the tables that a node holds anything of are told, just these, or memory ran out
+abbrev pub TellsTables : NodeContent → ReplyValue → Type 0
+TellsTables c reply = ((tables : List ℕ) × AreTablesOf c tables × (reply ≡ Tables tables)) ⊎ (reply ≡ Refused refusals.Memory)
+
+-- the host's seat looked at its node, and nothing else of the link changed
+abbrev pub LooksOnly : {S : Type 0} → Sided S → LinkValue S → LinkValue S → Type 0
+LooksOnly side old new = Grows side old.inner new.inner × KeepsOther old new
 
 -- ---- parts
 
@@ -244,6 +263,8 @@ IsLaterReply side may old asked.Streams reply new = Looks side old streams_reply
 IsLaterReply side may old (asked.AskLatest query) reply new = Looks side old (λ c. latest_reply c query) reply new
 IsLaterReply side may old (asked.Page t table low high most) reply new = Looks side old (λ c. page_reply c t table low high most) reply new
 IsLaterReply side may old (asked.Await t milliseconds) reply new = Looks side old ready_reply reply new
+IsLaterReply side may old asked.Stats reply new = LooksOnly side old new × TellsNumbers (content_of side new) reply
+IsLaterReply side may old asked.Tables reply new = LooksOnly side old new × TellsTables (content_of side new) reply
 IsLaterReply side may old (asked.Whole base most) reply new = IsWhole side old base most reply new
 IsLaterReply side may old asked.More reply new = IsMore old reply new
 IsLaterReply side may old (asked.AddPart facts) reply new = IsAdded old facts.items reply new

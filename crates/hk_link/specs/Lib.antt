@@ -1,3 +1,4 @@
+pub mod NodeNumbers
 pub mod NodeSides
 pub mod LinkStates
 pub mod LaterReplying

@@ -8,13 +8,16 @@
 mod incoming_parts;
 mod link_holds;
 mod link_state;
+mod meters;
 mod node_side;
 mod outgoing_transfer;
 mod parts_budget;
 mod parts_host;
 mod sharing;
+mod stats;
 
 pub use link_state::LinkState;
+pub use meters::Meters;
 pub use node_side::NodeSide;
 pub use outgoing_transfer::given_law;
 pub use parts_budget::{PartsBudget, budget_law};

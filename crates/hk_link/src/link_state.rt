@@ -4,18 +4,21 @@ ghost use Rattle.std.specs.Prelude.{◌≡◌, ◌<◌, ◌≤◌, ◌-◌, ◌+
 ghost use mathlib.Core.List.{IsPrefix};
 ghost use Rattle.hk_wire.specs.LaterReplies.{reply_seen};
 ghost use Rattle.hk_link.specs.LaterReplying.{AreLetGo, TellsCome, TellsFirst, TellsMore};
+ghost use Rattle.hk_link.specs.NodeNumbers.{sizes_metrics};
 ghost use Rattle.hk_link.specs.LinkStates.{fresh_state, held_by, is_other_hold, part_room, with_place};
 
 use crate::incoming_parts::IncomingParts;
 use crate::link_holds::{hold_of, release_each, set_last};
+use crate::meters::Meters;
 use crate::node_side::NodeSide;
 use crate::outgoing_transfer::OutgoingTransfer;
 use crate::parts_budget::{PartsBudget, Room};
+use crate::stats::all_metrics;
 use hk_fragment::{Assembly, Fragment};
 use hk_log::Version;
-use hk_oplog::Hold;
+use hk_oplog::{Hold, NodeSizes};
 use hk_types::{FormFault, Refusal, Time, VersionKey};
-use hk_values::head_bytes;
+use hk_values::{Metric, head_bytes};
 use hk_wire::LaterReply;
 use std::alloc::{AllocError, Global};
 use std::marker::Model;
@@ -36,6 +39,8 @@ const BESIDE: u64 = 64;
 pub struct LinkState<'a> {
     alloc: Global,
     budget: &'a PartsBudget,
+    /// Where the node counts what its connections do, if it does.
+    meters: Option<&'a Meters<'a>>,
     giving: Option<OutgoingTransfer<'a>>,
     came: IncomingParts<'a>,
     holds: Vec<Hold>,
@@ -71,13 +76,19 @@ fn room_of_part(fragment: &Fragment, most: u32) -> Option<u64>
 }
 
 impl<'a> LinkState<'a> {
-    /// Nothing is sent, nothing came, and there are no pins. It takes no memory.
-    pub fn new(alloc: Global, budget: &'a PartsBudget) -> LinkState<'a>
+    /// Nothing is sent, nothing came, and there are no pins. What the connection asks, and what it is refused, is counted by these
+    /// meters where there are some. It takes no memory.
+    pub fn new(
+        alloc: Global,
+        budget: &'a PartsBudget,
+        meters: Option<&'a Meters<'a>>,
+    ) -> LinkState<'a>
         ensures { result ≡ fresh_state budget.now [] }
     {
         LinkState {
             alloc,
             budget,
+            meters,
             giving: None,
             came: IncomingParts::new(alloc, budget),
             holds: Vec::new(alloc),
@@ -113,6 +124,7 @@ impl<'a> LinkState<'a> {
         let LinkState {
             alloc,
             budget,
+            meters,
             giving: _,
             came: _,
             holds,
@@ -125,12 +137,31 @@ impl<'a> LinkState<'a> {
         LinkState {
             alloc,
             budget,
+            meters,
             giving: None,
             came: IncomingParts::new(alloc, budget),
             holds,
             pins,
             buffers: Room::none(&budget.bytes),
         }
+    }
+
+    /// Counts a request of this kind, and its refusal where it was refused with a number.
+    pub(crate) fn count(&self, kind: u8, refusal: Option<u8>) {
+        let Some(meters) = self.meters else {
+            return;
+        };
+        meters.note_request(kind);
+        if let Some(number) = refusal {
+            meters.note_refusal(number);
+        }
+    }
+
+    /// The numbers of a node, with what is counted of its connections where that is done.
+    pub(crate) fn metrics(&self, sizes: &NodeSizes) -> Result<Vec<Metric>, AllocError>
+        ensures { IfOk result (λ metrics. IsPrefix (sizes_metrics sizes.now) metrics.items) }
+    {
+        all_metrics(self.alloc, sizes, self.meters)
     }
 
     /// Drops what is sent.

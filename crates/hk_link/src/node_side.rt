@@ -2,7 +2,7 @@
 
 use hk_fragment::Fragment;
 use hk_model::{Answer, Front, Page, Query, StreamsTold};
-use hk_oplog::Hold;
+use hk_oplog::{Hold, NodeSizes};
 use hk_session::Host;
 use hk_types::{Key, Refusal, Table, Time};
 
@@ -19,6 +19,7 @@ pub trait NodeSide: Host {
     ghost use Rattle.hk_oplog.specs.declared.op.Hold.{Hold};
     ghost use Rattle.hk_oplog.specs.Replay.{is_legal, replay};
     ghost use Rattle.hk_oplog.specs.Replies.{GivesOrMemory, GivesSeen, timed_seen, node_front, node_latest, node_page, node_streams};
+    ghost use Rattle.hk_link.specs.NodeNumbers.{AreSizesOf, AreTablesOf};
     ghost use Rattle.hk_link.specs.NodeSides.{GoesOn, Sided, cut_of};
 
     /// The list of operations that its seat has seen or got a receipt of, and which results pins and their releases may have.
@@ -57,6 +58,22 @@ pub trait NodeSide: Host {
         ensures legal { is_legal (side.list self.new) ≡ true }
         ensures seen { IsPrefix (side.list self.old) (side.list self.new) }
         ensures streams { IfOk result (λ told. streams_seen told ≡ node_streams (replay (side.list self.new))) }
+        ensures err { IfErr result (λ why. why ≡ Memory) }
+        ensures ready { Self.ready self.old → Self.ready self.new };
+
+    /// How much the node holds, and how far its list is. The only refusal is `Memory`. Cost: as `ReaderSeat::sizes`.
+    fn sizes(&mut self) -> Result<NodeSizes, Refusal>
+        ensures legal { is_legal (side.list self.new) ≡ true }
+        ensures seen { IsPrefix (side.list self.old) (side.list self.new) }
+        ensures sizes { IfOk result (λ sizes. AreSizesOf (replay (side.list self.new)) sizes) }
+        ensures err { IfErr result (λ why. why ≡ Memory) }
+        ensures ready { Self.ready self.old → Self.ready self.new };
+
+    /// The tables of which the node holds anything. The only refusal is `Memory`. Cost: as `ReaderSeat::tables`.
+    fn tables(&mut self) -> Result<Vec<Table>, Refusal>
+        ensures legal { is_legal (side.list self.new) ≡ true }
+        ensures seen { IsPrefix (side.list self.old) (side.list self.new) }
+        ensures tables { IfOk result (λ tables. AreTablesOf (replay (side.list self.new)) tables.items) }
         ensures err { IfErr result (λ why. why ≡ Memory) }
         ensures ready { Self.ready self.old → Self.ready self.new };
 

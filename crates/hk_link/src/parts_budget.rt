@@ -166,6 +166,13 @@ impl PartsBudget {
     {
         self.bytes.most
     }
+
+    /// How many bytes connections have reserved now, all together. Cost: O(1).
+    pub fn reserved(&self) -> u64
+        ensures { result ≤ self.now }
+    {
+        self.most().saturating_sub(self.bytes.table.shared.peek(0))
+    }
 }
 
 /// What connections have reserved of a budget, all together, is never more than its limit, of bytes as of pins: at each moment it

@@ -5,7 +5,7 @@ ghost use mathlib.Core.List.{IsPrefix};
 ghost use Rattle.hk_fragment.specs.Heads.{of_facts};
 ghost use Rattle.hk_wire.specs.LaterReplies.{reply_seen};
 ghost use Rattle.hk_oplog.specs.Replay.{is_legal};
-ghost use Rattle.hk_link.specs.LaterReplying.{AreLetGo, AsksHoldInPlace, IsFirstReply, IsFull, IsHeld, IsLaterReply, IsOrMemory, IsReleased, JoinsMade, KeepsButCame, KeepsButGiving, KeepsCameAndHolds, KeepsOther, LetsGo, TellsCome, TellsMore, TellsWhole, change_seen, content_of, latest_reply, page_reply, ready_reply, streams_reply};
+ghost use Rattle.hk_link.specs.LaterReplying.{AreLetGo, AsksHoldInPlace, IsFirstReply, IsFull, IsHeld, IsLaterReply, IsOrMemory, IsReleased, JoinsMade, KeepsButCame, KeepsButGiving, KeepsCameAndHolds, KeepsOther, LetsGo, MayReplyBoth, TellsCome, TellsMore, TellsNumbers, TellsSizes, TellsTables, TellsWhole, change_seen, content_of, latest_reply, page_reply, ready_reply, streams_reply};
 ghost use Rattle.hk_link.specs.LinkStates.{fresh_state, link_of};
 
 use crate::link_state::LinkState;
@@ -13,11 +13,11 @@ use crate::node_side::NodeSide;
 use crate::parts_budget::MOST_PINS;
 use hk_log::Version;
 use hk_model::{Front, Query};
-use hk_oplog::Hold;
+use hk_oplog::{Hold, NodeSizes};
 use hk_session::Host;
 use hk_types::{FormFault, Key, Refusal, Table, Time, VersionKey};
 use hk_values::FragmentHead;
-use hk_wire::{LaterReply, LaterRequest, Reply, Request};
+use hk_wire::{LaterReply, LaterRequest, Reply, Request, kind_of};
 use std::marker::Model;
 
 /// How many pins a connection has at most.
@@ -62,6 +62,14 @@ fn later_reply(answer: Reply) -> LaterReply
     }
 }
 
+/// The number of the refusal that a reply is, if it is one.
+fn refusal_of(reply: &Reply) -> Option<u8> {
+    match reply {
+        Reply::Refused(why) | Reply::Later(LaterReply::Refused(why)) => Some(why.number()),
+        _ => None,
+    }
+}
+
 impl<'a, H: NodeSide + Drop> PartsHost<'a, H> {
     /// A host for both versions over one for version 1, with what the connection keeps. It takes no memory.
     pub fn new(inner: H, kept: LinkState<'a>) -> PartsHost<'a, H>
@@ -102,6 +110,44 @@ impl<'a, H: NodeSide + Drop> PartsHost<'a, H> {
     {
         match self.inner.streams() {
             Ok(told) => LaterReply::Streams(told),
+            Err(why) => LaterReply::Refused(why),
+        }
+    }
+
+    /// The numbers of what the node holds and did, with what is counted of its connections where that is done.
+    fn stats(&mut self) -> LaterReply
+        ensures legal { is_legal (H.side.list self.new.inner) ≡ true }
+        ensures seen { IsPrefix (H.side.list self.old.inner) (H.side.list self.new.inner) }
+        ensures same { KeepsOther self.old self.new }
+        ensures told { TellsNumbers (content_of H.side self.new) (reply_seen result) }
+        ensures ready { H.ready self.old.inner → H.ready self.new.inner }
+    {
+        match self.inner.sizes() {
+            Ok(sizes) => self.stats_of(&sizes),
+            Err(why) => LaterReply::Refused(why),
+        }
+    }
+
+    /// These numbers of what the node holds, with what is counted of its connections.
+    fn stats_of(&self, sizes: &NodeSizes) -> LaterReply
+        ensures { TellsSizes sizes.now (reply_seen result) }
+    {
+        match self.kept.metrics(sizes) {
+            Ok(metrics) => LaterReply::Stats(metrics),
+            Err(_memory) => LaterReply::Refused(Refusal::Memory),
+        }
+    }
+
+    /// The tables of which the node holds anything.
+    fn tables(&mut self) -> LaterReply
+        ensures legal { is_legal (H.side.list self.new.inner) ≡ true }
+        ensures seen { IsPrefix (H.side.list self.old.inner) (H.side.list self.new.inner) }
+        ensures same { KeepsOther self.old self.new }
+        ensures told { TellsTables (content_of H.side self.new) (reply_seen result) }
+        ensures ready { H.ready self.old.inner → H.ready self.new.inner }
+    {
+        match self.inner.tables() {
+            Ok(tables) => LaterReply::Tables(tables),
             Err(why) => LaterReply::Refused(why),
         }
     }
@@ -286,12 +332,26 @@ impl<'a, H: NodeSide + Drop> PartsHost<'a, H> {
                 most,
             } => self.page(t, table, low, high, most),
             LaterRequest::Await { .. } => self.ready(),
+            LaterRequest::Stats => self.stats(),
+            LaterRequest::Tables => self.tables(),
             LaterRequest::Whole { base, most_bytes } => self.whole(base, most_bytes),
             LaterRequest::More => self.kept.more(),
             LaterRequest::AddPart(facts) => self.kept.add(facts),
             LaterRequest::JoinParts(head) | LaterRequest::MergeParts(head) => self.join(head),
             LaterRequest::Hold { t } => self.hold(t),
             LaterRequest::Release { number } => self.release(number),
+        }
+    }
+
+    /// Answers a request of either version.
+    fn answer_either(&mut self, request: Request) -> Reply
+        requires ready { H.ready self.old.inner }
+        ensures told { MayReplyBoth H.side H.may self.old request result self.new }
+        ensures ready { H.ready self.new.inner }
+    {
+        match request {
+            Request::Later(later) => Reply::Later(self.answer_later(later)),
+            first => self.answer_first(first),
         }
     }
 }
@@ -304,9 +364,9 @@ impl<'a, H: NodeSide + Drop> Host for PartsHost<'a, H> {
     ghost ready = { λ h. H.ready h.inner };
 
     fn answer(&mut self, request: Request) -> Reply {
-        match request {
-            Request::Later(later) => Reply::Later(self.answer_later(later)),
-            first => self.answer_first(first),
-        }
+        let kind = kind_of(&request);
+        let reply = self.answer_either(request);
+        self.kept.count(kind, refusal_of(&reply));
+        reply
     }
 }

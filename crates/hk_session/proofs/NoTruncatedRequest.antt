@@ -66,7 +66,9 @@ later_of_kind_whole kind bytes =
     (cond_whole (eqb kind 50) _ _ (page_whole bytes)
     (cond_whole (eqb kind 51) _ _ (made_whole _ (both time_at (number_at w32)) (both_whole time_at (number_at w32) time_whole (number_whole w32)) bytes)
     (cond_whole (eqb kind 52) _ _ refl
-    (cond_whole (eqb kind 59) _ _ (made_whole _ (both time_at wait_at) (both_whole time_at wait_at time_whole wait_whole) bytes) (change_whole kind bytes))))))
+    (cond_whole (eqb kind 59) _ _ (made_whole _ (both time_at wait_at) (both_whole time_at wait_at time_whole wait_whole) bytes)
+    (cond_whole (eqb kind 60) _ _ refl
+    (cond_whole (eqb kind 61) _ _ refl (change_whole kind bytes))))))))
 
 -- ---- requests
 

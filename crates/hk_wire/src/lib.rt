@@ -28,4 +28,4 @@ pub use laws::{
 pub use reply::{Reply, ReplyFeeder, ReplyFormat};
 pub use reply_encoding::encode_reply;
 pub use request::{Request, RequestFeeder, RequestFormat};
-pub use request_encoding::encode_request;
+pub use request_encoding::{encode_request, kind_of};

@@ -14,8 +14,8 @@ use hk_values::fragment_encoding::{fragment_len, is_counted, put_fragment};
 use hk_values::query::{put_query, query_len};
 use std::alloc::AllocError;
 
-/// The kind byte.
-fn kind_of(request: &Request) -> u8
+/// The kind byte of a request, which gives its version: those of version 2 are from 48 on.
+pub fn kind_of(request: &Request) -> u8
     ensures { result ≡ requests.request_kind (requests.as_written request.now) }
 {
     match request {
