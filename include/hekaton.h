@@ -5,7 +5,8 @@
    - a handle begins as HK_CLOSED, and from then on only the functions write to its fields. Between two calls it may be
      moved, for the library keeps no address of it: all of it goes to another place, which is the handle from then on,
      and the place before is forgotten, or made HK_CLOSED again. Two places are never both used;
-   - one call at a time for a handle, on any thread; calls for two handles may run at once;
+   - one call at a time for a handle, on any thread, reads too: each call takes the replica out of the handle and puts it
+     back, so no handle is const; calls for two handles may run at once;
    - each pointer points to what its type says, also where a length is 0 (then to anything but NULL); and what two
      pointers of one call point to does not overlap, the two handles of hk_merge included;
    - not from a signal handler, nor in a forked child of a process with threads;
@@ -79,6 +80,10 @@ typedef struct hk_handle { void *at; bool live; } hk_handle;
 /* Whether there is a row, its tag, and how many bytes its body has. */
 typedef struct hk_found { bool row; uint32_t tag; size_t len; } hk_found;
 
+/* Of a page of rows: whether others follow, how many rows it has, the key of the last (0 where it has none), and how many
+   bytes they have. */
+typedef struct hk_page { bool more; size_t rows; uint64_t last; size_t len; } hk_page;
+
 /* The least and the greatest time that can be asked, and how many operations the replica has done. */
 typedef struct hk_bounds { uint64_t horizon; uint64_t readable; uint64_t ops; } hk_bounds;
 
@@ -95,8 +100,8 @@ void hk_close(hk_handle *handle);
 uint8_t hk_call(hk_handle *handle, const uint8_t *requests, size_t requests_len,
                 uint8_t *out, size_t out_len, size_t *written);
 
-/* Copies the replies of the last hk_call, or the rows of the last hk_range or hk_by_tag, from a position on. How many
-   bytes were copied: 0 at a closed handle. */
+/* Copies the replies of the last hk_call, or the rows of the last hk_range, hk_by_tag or page, from a position on. How
+   many bytes were copied: 0 at a closed handle. */
 size_t hk_reply(hk_handle *handle, size_t from, uint8_t *out, size_t out_len);
 
 /* Takes the next piece of a stream of item frames. What is cut off at its end is kept for the next piece. The items of
@@ -125,6 +130,17 @@ uint8_t hk_range(hk_handle *handle, uint64_t time, uint16_t table, uint64_t low,
 /* The rows of a table with a tag and keys from low on, at a time, as hk_range gives them. */
 uint8_t hk_by_tag(hk_handle *handle, uint64_t time, uint16_t table, uint32_t tag, uint64_t low,
                   uint8_t *out, size_t out_len, size_t *needed);
+
+/* The first rows of hk_range: at most most of them, and no more than 268,435,449 bytes. *page tells whether others follow:
+   those come with low = page->last + 1. page->len is how many bytes the rows have; as many as fit go to out, and hk_reply
+   gives the rest. Where it is refused (25, 26 as above) *page is all 0. With most = 0 no row comes. */
+uint8_t hk_range_page(hk_handle *handle, uint64_t time, uint16_t table, uint64_t low, uint64_t high, uint32_t most,
+                      uint8_t *out, size_t out_len, hk_page *page);
+
+/* The first rows of hk_by_tag, at most most of them, told as by hk_range_page. The rows that come are bounded, and not
+   what the call costs: it goes through all rows with the tag, as hk_by_tag does, and needs the memory of them. */
+uint8_t hk_by_tag_page(hk_handle *handle, uint64_t time, uint16_t table, uint32_t tag, uint64_t low, uint32_t most,
+                       uint8_t *out, size_t out_len, hk_page *page);
 
 /* From where to where the replica can be read. */
 uint8_t hk_front(hk_handle *handle, hk_bounds *bounds);

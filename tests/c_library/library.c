@@ -35,17 +35,26 @@ static void fill(hk_handle *h) {
 static void sizes(void) {
     want("sizes", sizeof(hk_handle) == 16 && offsetof(hk_handle, live) == 8);
     want("sizes of a row", sizeof(hk_found) == 16 && offsetof(hk_found, tag) == 4 && offsetof(hk_found, len) == 8);
+    want("sizes of a page", sizeof(hk_page) == 32 && offsetof(hk_page, rows) == 8 && offsetof(hk_page, last) == 16 && offsetof(hk_page, len) == 24);
     want("sizes of bounds", sizeof(hk_bounds) == 24 && offsetof(hk_bounds, readable) == 8 && offsetof(hk_bounds, ops) == 16);
 }
 
+static const hk_page STALE = { true, 9, 9, 9 };
+
+static int is_page(const hk_page *p, int more, size_t rows, uint64_t last, size_t len) {
+    return p->more == more && p->rows == rows && p->last == last && p->len == len;
+}
+
 static void closed(void) {
-    hk_handle h = HK_CLOSED, peer = HK_CLOSED; uint8_t out[8] = { 1, 2, 3 }; size_t n = 9; uint64_t count = 9; hk_found found; hk_bounds bounds;
+    hk_handle h = HK_CLOSED, peer = HK_CLOSED; uint8_t out[8] = { 1, 2, 3 }; size_t n = 9; hk_page page = STALE, other = STALE; uint64_t count = 9; hk_found found; hk_bounds bounds;
     want("closed: call", hk_call(&h, FRONT, sizeof FRONT, out, sizeof out, &n) == 255 && n == 0);
     want("closed: reply", hk_reply(&h, 0, out, sizeof out) == 0);
     want("closed: absorb, finish", hk_absorb(&h, ITEM, sizeof ITEM) == 255 && hk_finish(&h) == 255);
     want("closed: get, count", hk_get(&h, 1, 1, 5, &found, out, sizeof out) == 255 && hk_count(&h, 1, 1, &count) == 255);
     want("closed: range", hk_range(&h, 1, 1, 0, 9, out, sizeof out, &n) == 255);
     want("closed: by tag", hk_by_tag(&h, 1, 1, 9, 0, out, sizeof out, &n) == 255);
+    want("closed: pages", hk_range_page(&h, 1, 1, 0, 9, 5, out, sizeof out, &page) == 255 && is_page(&page, 0, 0, 0, 0)
+         && hk_by_tag_page(&h, 1, 1, 9, 0, 5, out, sizeof out, &other) == 255 && is_page(&other, 0, 0, 0, 0));
     want("closed: front, prune", hk_front(&h, &bounds) == 255 && hk_prune(&h, 1) == 255);
     want("closed: merge", hk_merge(&h, &peer) == 255);
     want("closed: the buffer", out[0] == 1 && out[1] == 2 && out[2] == 3);
@@ -77,6 +86,40 @@ static void reads(void) {
     want("by tag", hk_by_tag(&h, 1, 1, 9, 5, out, sizeof out, &n) == 0 && n == sizeof ROW && !memcmp(out, ROW, n));
     want("by tag: on from a key", hk_by_tag(&h, 1, 1, 9, 6, out, sizeof out, &n) == 0 && n == 0 && hk_by_tag(&h, 1, 1, 8, 0, out, 0, &n) == 0 && n == 0);
     hk_close(&h); hk_close(&h);
+}
+
+/* Rows of keys 5, 6 and 7 with tags 9, 8 and 9. */
+static void fill_three(hk_handle *h) {
+    uint8_t item[sizeof ITEM], mark[sizeof MARK]; uint8_t i;
+    want("three: open", hk_open(h, 7, 1) == 0);
+    for (i = 0; i < 3; i++) {
+        memcpy(item, ITEM, sizeof item); item[23] = item[31] = (uint8_t)(i + 1); item[45] = (uint8_t)(5 + i); item[49] = i == 1 ? 8 : 9;
+        want("three: an item", hk_absorb(h, item, sizeof item) == 0);
+    }
+    memcpy(mark, MARK, sizeof mark); mark[23] = mark[31] = 3;
+    want("three: a mark", hk_absorb(h, mark, sizeof mark) == 0);
+}
+
+static void pages(void) {
+    hk_handle h = fresh(); uint8_t out[64], all[64]; hk_page page = STALE; size_t n; uint64_t low; size_t rows;
+    fill_three(&h);
+    want("page: all rows", hk_range(&h, 3, 1, 0, 9, all, sizeof all, &n) == 0 && n == 3 * sizeof ROW);
+    want("page: two rows", hk_range_page(&h, 3, 1, 0, 9, 2, out, sizeof out, &page) == 0 && is_page(&page, 1, 2, 6, 2 * sizeof ROW) && !memcmp(out, all, page.len));
+    want("page: the rest", hk_range_page(&h, 3, 1, page.last + 1, 9, 2, out, sizeof out, &page) == 0 && is_page(&page, 0, 1, 7, sizeof ROW) && !memcmp(out, all + 2 * sizeof ROW, page.len));
+    want("page: just as many", hk_range_page(&h, 3, 1, 5, 7, 3, out, 0, &page) == 0 && is_page(&page, 0, 3, 7, n) && hk_reply(&h, 0, out, sizeof out) == n && !memcmp(out, all, n));
+    want("page: none wanted", hk_range_page(&h, 3, 1, 5, 7, 0, out, sizeof out, &page) == 0 && page.rows == 0 && page.len == 0);
+    want("page: none there", hk_range_page(&h, 3, 1, 8, 9, 4, out, sizeof out, &page) == 0 && is_page(&page, 0, 0, 0, 0));
+    page = STALE;
+    want("page: not yet", hk_range_page(&h, 4, 1, 0, 9, 2, out, sizeof out, &page) == 26 && is_page(&page, 0, 0, 0, 0) && hk_range_page(&h, ((uint64_t)1 << 62) + 1, 1, 0, 9, 2, out, sizeof out, &page) == 6);
+    for (low = 0, rows = 0; hk_range_page(&h, 3, 1, low, (uint64_t)-1, 1, out, sizeof out, &page) == 0; low = page.last + 1) { rows += page.rows; if (!page.more) break; }
+    want("pages of one row", rows == 3);
+    memset(out, 7, sizeof out);
+    want("page by tag", hk_by_tag_page(&h, 3, 1, 9, 0, 1, out, 4, &page) == 0 && is_page(&page, 1, 1, 5, sizeof ROW) && !memcmp(out, ROW, 4) && out[4] == 7);
+    want("page by tag: kept", hk_reply(&h, 0, out, sizeof out) == sizeof ROW && !memcmp(out, ROW, sizeof ROW));
+    want("page by tag: the rest", hk_by_tag_page(&h, 3, 1, 9, 6, 1, out, sizeof out, &page) == 0 && is_page(&page, 0, 1, 7, sizeof ROW) && out[7] == 7);
+    want("page by tag: none", hk_by_tag_page(&h, 3, 1, 9, 8, 1, out, sizeof out, &page) == 0 && is_page(&page, 0, 0, 0, 0) && hk_by_tag_page(&h, 3, 1, 9, 0, 0, out, sizeof out, &page) == 0 && page.more && page.rows == 0);
+    want("page by tag: not yet", hk_by_tag_page(&h, 4, 1, 9, 0, 1, out, sizeof out, &page) == 26 && is_page(&page, 0, 0, 0, 0));
+    hk_close(&h);
 }
 
 static void feeding(void) {
@@ -214,7 +257,8 @@ static unsigned long next(void) { state ^= state << 13; state ^= state >> 7; sta
 
 static void any_call(hk_handle *h, hk_handle *peer, const uint8_t *in, size_t len) {
     size_t n, room = next() % 256; uint8_t *out = malloc(room + !room); uint64_t count; hk_found found; hk_bounds bounds; uint64_t time = next() % 8 ? next() % 4 : next();
-    switch (next() % 16) {
+    hk_page page;
+    switch (next() % 18) {
     case 0: hk_get(h, time, (uint16_t)(next() % 3), next() % 9, &found, out, room); break;
     case 1: hk_range(h, time, 1, next() % 9, next() % 99, out, room, &n); break;
     case 2: hk_by_tag(h, time, 1, (uint32_t)(next() % 12), next() % 9, out, room, &n); break;
@@ -225,6 +269,8 @@ static void any_call(hk_handle *h, hk_handle *peer, const uint8_t *in, size_t le
     case 7: hk_words((uint8_t)next(), out, room); hk_version(out, room % 8); break;
     case 8: if (next() % 8 == 0) hk_close(h); else if (next() % 2) hk_open(peer, 7, 1); else hk_open(h, 7, (uint16_t)(next() % 3)); break;
     case 9: case 10: case 11: hk_absorb(h, in, len); break;
+    case 12: hk_range_page(h, time, 1, next() % 9, next() % 99, (uint32_t)(next() % 4), out, room, &page); break;
+    case 13: hk_by_tag_page(h, time, 1, (uint32_t)(next() % 12), next() % 9, (uint32_t)(next() % 4), out, room, &page); break;
     default: hk_call(h, in, len, out, room, &n);
     }
     free(out);
@@ -266,13 +312,14 @@ void *__wrap_realloc(void *p, size_t n) { if (left >= 0 && left-- == 0) return N
 
 /* The numbers of all calls, where the request for memory number k is refused. */
 static int starve_at(long k, int *numbers) {
-    hk_handle h = fresh(), peer = fresh(); uint8_t out[256]; size_t n; uint64_t count; hk_found found; hk_bounds bounds; int i = 0, over;
+    hk_handle h = fresh(), peer = fresh(); uint8_t out[256]; size_t n; uint64_t count; hk_found found; hk_bounds bounds; hk_page page; int i = 0, over;
     left = k;
     numbers[i++] = hk_open(&h, 7, 1); numbers[i++] = hk_open(&peer, 7, 1);
     numbers[i++] = hk_absorb(&h, ITEM, 20); numbers[i++] = hk_absorb(&h, ITEM + 20, sizeof ITEM - 20); numbers[i++] = hk_absorb(&h, MARK, sizeof MARK);
     numbers[i++] = hk_call(&h, bytes, size, out, sizeof out, &n); numbers[i++] = hk_merge(&peer, &h); numbers[i++] = hk_prune(&peer, 1);
     numbers[i++] = hk_get(&h, 1, 1, 5, &found, out, sizeof out); numbers[i++] = hk_range(&h, 1, 1, 0, 9, out, sizeof out, &n);
     numbers[i++] = hk_by_tag(&h, 1, 1, 9, 0, out, sizeof out, &n); numbers[i++] = hk_count(&h, 1, 1, &count); numbers[i++] = hk_front(&h, &bounds);
+    numbers[i++] = hk_range_page(&h, 1, 1, 0, 9, 5, out, sizeof out, &page); numbers[i++] = hk_by_tag_page(&h, 1, 1, 9, 0, 5, out, sizeof out, &page);
     numbers[i++] = hk_finish(&h); hk_words(26, out, sizeof out);
     over = left >= 0; left = -1;
     hk_close(&h); hk_close(&peer);
@@ -319,7 +366,7 @@ int main(int argc, char **argv) {
     if (!strcmp(mode, "starve")) return starve();
     if (!strcmp(mode, "time")) return times(argc > 3 ? atol(argv[3]) : 1000000);
     if (!strcmp(mode, "moved")) moved();
-    else { sizes(); closed(); reads(); feeding(); changes(); replies(); moved(); words(); version(); threads(); }
+    else { sizes(); closed(); reads(); pages(); feeding(); changes(); replies(); moved(); words(); version(); threads(); }
     printf("%d passed, %d failed\n", passed, failed);
     return failed != 0;
 }

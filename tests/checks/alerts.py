@@ -21,6 +21,7 @@ sys.path.append(str(pathlib.Path(__file__).resolve().parents[1] / "lib"))
 from checks import differ, ended, guarded, is_built, report, skip
 from client import PROGRAM
 from promql import labels_by_name, lacking
+from telling import Telling
 from web_parts import FRAMES, LAST, LIMIT, ROOT, STREAMS, Served, fed, page_of, parsed_metrics, va, waited
 
 PROMETHEUS, DASHBOARD = ROOT / "deploy" / "prometheus", ROOT / "deploy" / "grafana" / "dashboard.json"
@@ -33,16 +34,18 @@ STEP = 15
 # ---------------------------------------------------------------- what a page says
 
 def exposed():
-    """The samples of a page of two nodes of which one lacks what the other has, after an error; a time is pinned."""
+    """The samples of a page of two nodes of which one lacks what the other has, after an error; a time is pinned, and the first tells its numbers."""
     with contextlib.ExitStack() as stack:
         whole, behind = [stack.enter_context(Served(8, streams=STREAMS, words=("--messages", "2"))) for _ in range(2)]
         fed(whole.port)
         fed(behind.port, FRAMES[:20])
         hold = stack.enter_context(va.Node(whole.port)).hold(3)
-        web, _ = stack.enter_context(page_of([whole.port, behind.port], "--messages", "2"))
+        telling = stack.enter_context(Telling(whole.port))
+        web, _ = stack.enter_context(page_of([telling.port, behind.port], "--messages", "2"))
         web.json(f"/api/get?table=1&key=0&at={LAST + 1}")
         web.asked("/metrics")       # so that the next one has an answer to count
-        waited(lambda: web.metric("vadungsil_least_pinned", node=f"127.0.0.1:{whole.port}") == 3.0)
+        waited(lambda: web.metric("vadungsil_least_pinned", node=f"127.0.0.1:{telling.port}") == 3.0)
+        waited(lambda: web.metric("vadungsil_node_memory_bytes", node=f"127.0.0.1:{telling.port}") is not None)
         samples = parsed_metrics(web.asked("/metrics")[2].decode())[1]
         hold.release()
         return samples
@@ -104,6 +107,7 @@ def answers(fast, all_of_them):
     return tuple(of(BUCKET, f"0+{more}x60", kind="range", le=bound) for bound, more in (("0.5", 0), ("1.0", fast), ("2.5", all_of_them), ("+Inf", all_of_them)))
 
 
+MEMORY, RESERVED, BUDGET, ERRORS = (f"vadungsil_node_{it}" for it in ("memory_bytes", "reserved_bytes", "budget_bytes", "refusals_total"))
 STREAM = ("node", "stream", "job", "instance")
 CASES = (
     Case("VadungsilPageAway", 9, (of("vadungsil_build_info", "1+0x4 _x60"),), "no page is read: the other alerts see nothing", ()),
@@ -132,6 +136,16 @@ CASES = (
     Case("VadungsilOutOfMemory", 2, (of(REFUSED, "0+0x4 1+0x9", number="90"),), "NODE returned error 90 (out of memory) to a query", ("node", "number", "job", "instance")),
     Case("VadungsilOutOfMemory", 9, (of(REFUSED, "0+0x4 1+0x60", number="90"),)),
     Case("VadungsilOutOfMemory", 2, (of(REFUSED, "0+0x4 1+1x9", number="26"), of(REFUSED, "0+0x60", number="90"))),
+    Case("VadungsilMemoryHigh", 7, (of(MEMORY, "7000000001+0x60"),), "NODE has 7000000001 bytes of memory: prune it, or give it more"),
+    Case("VadungsilMemoryHigh", 7, (of(MEMORY, "7000000000+0x60"),)),
+    Case("VadungsilMemoryHigh", 7, (of(MEMORY, "8000000000+0x16 9 8000000000+0x9"),)),
+    Case("VadungsilBudgetTaken", 3, (of(RESERVED, "801+0x60", of="shared"), of(BUDGET, "1000+0x60", of="shared"), of(RESERVED, "0+0x60", of="readers"), of(BUDGET, "1000+0x60", of="readers")),
+         "connections of NODE make it keep more than 80 % of what --link-bytes allows (shared)", ("node", "of", "job", "instance")),
+    Case("VadungsilBudgetTaken", 3, (of(RESERVED, "800+0x60", of="shared"), of(BUDGET, "1000+0x60", of="shared"), of(RESERVED, "801+0x60", of="readers"), of(BUDGET, "2000+0x60", of="readers"))),
+    Case("VadungsilBudgetTaken", 3, (of(RESERVED, "900+0x6 9 900+0x6", of="readers"), of(BUDGET, "1000+0x60", of="readers"))),
+    Case("VadungsilManyErrors", 12, (of(ERRORS, "0+16x60", number="90"), of(ERRORS, "0+0x60", number="26")), "NODE returns more than one error a second, other than 25 and 26", ("node",)),
+    Case("VadungsilManyErrors", 12, (of(ERRORS, "0+16x60", number="90"),), "NODE returns more than one error a second, other than 25 and 26", ("node",)),
+    Case("VadungsilManyErrors", 12, (of(ERRORS, "0+15x60", number="90"), of(ERRORS, "0+800x60", number="26"))),
     Case("VadungsilLinksUsedUp", 60, (of(OPENED, "1+0x200 2+1x19 21+0x60"),), "20 connections to NODE were opened within an hour; without --stay it serves 64 at most in its life"),
     Case("VadungsilLinksUsedUp", 60, (of(OPENED, "1+0x200 2+1x14 16+0x60"),)),
     Case("VadungsilSlowAnswers", 12, answers(98, 100), "range of NODE takes more than a second (p99)", ("node", "kind")),

@@ -25,6 +25,7 @@ import python_addresses
 import python_members
 import python_names
 import python_servers
+import python_stats
 import python_waiting
 sys.path.append(str(pathlib.Path(__file__).resolve().parents[1] / "lib"))
 import reference
@@ -678,7 +679,7 @@ def syntax():
 
 
 CHECKS = (values, reasons, client_items, client_messages, client_faults, stored, syntax, program_items, program_replies, a_node, pipelines,
-          limits_and_links, waited_for, *python_addresses.CHECKS, *python_servers.CHECKS, *python_waiting.CHECKS, asynchronous, many_nodes, *python_members.CHECKS, log_writer, writer_refusals, resumed, *python_names.CHECKS, commands, exports, export_places, wheel)
+          limits_and_links, waited_for, *python_addresses.CHECKS, *python_servers.CHECKS, *python_stats.CHECKS, *python_waiting.CHECKS, asynchronous, many_nodes, *python_members.CHECKS, log_writer, writer_refusals, resumed, *python_names.CHECKS, commands, exports, export_places, wheel)
 
 
 def main(words):

@@ -38,6 +38,7 @@ import web_parts
 from checks import differ, ended, guarded, is_built, report, skip, timed
 from shown import of
 from client import PROGRAM
+from telling import OF_TABLES, STATS, Telling
 from web_parts import (FRAMES, KEYS, LAST, LIMIT, PACKAGE, ROOT, STREAMS, Served, Web, breaks, changes_of, fed, log_of, nodes, page_of, parsed_metrics,
                        parsed_openmetrics, quiet_port, rows_at, va, waited, web_of)
 
@@ -428,6 +429,40 @@ def forms():
     report(f"/metrics in two forms, as a request asks ({len(ACCEPTED)})", problems)
 
 
+# what is said of a node that tells numbers, by name and labels
+SAID = {("memory_bytes",): 47_185_920, ("run_seconds",): 7_260, ("guarded",): 1, ("rows",): 40, ("ends",): 12, ("keys",): 7, ("body_bytes",): 900, ("pins",): 1,
+        ("read_bytes_total",): 4_096, ("written_bytes_total",): 65_536, ("failed_accepts_total",): 0, ("budget_bytes", ("of", "shared")): 1_000_000,
+        ("budget_bytes", ("of", "readers")): 500_000, ("reserved_bytes", ("of", "shared")): 900_000, ("reserved_bytes", ("of", "readers")): 0, ("connections", ("door", "0")): 3,
+        ("connections", ("door", "1")): 2, ("opened_total", ("door", "0")): 70, ("opened_total", ("door", "1")): 2, ("connections_most", ("door", "0")): 9,
+        ("connections_most", ("door", "1")): 2, ("requests_total", ("kind", "20")): 12, ("requests_total", ("kind", "60")): 3, ("refusals_total", ("number", "26")): 8,
+        ("refusals_total", ("number", "90")): 1, ("tables",): 3, ("version_info", ("version", "1.2.3")): 1}
+
+
+def numbers():
+    """A node's numbers and tables are in /api/ and in /metrics, in both forms; its tables are asked for anew only where it did something. Of a node of an
+    earlier release nothing more is said than before, and it is asked once."""
+    problems = []
+    with nodes(1, words=("--messages", "2")) as (node,), Telling(node.port) as telling, Telling(node.port, None) as old, \
+            web_of([telling.port, old.port, node.port], every=0.05, messages=2) as web:
+        told, name = web.server.nodes[f"127.0.0.1:{telling.port}"], f"127.0.0.1:{telling.port}"
+        waited(lambda: web.node(0)["stats"] is not None and telling.asked[STATS] > 9 and web.node(1)["operations"] is not None)
+        for form in ({}, {"Accept": OPEN}):
+            _, samples = (parsed_openmetrics if form else parsed_metrics)(web.asked("/metrics", **form)[2].decode())
+            new = {name: value for name, value in samples.items() if name[0].startswith("vadungsil_node_") and name[0].split("_", 2)[2] not in ("up", "damaged", "reply_age_seconds")}
+            wanted = {(f"vadungsil_node_{it}", tuple(sorted([("node", name), *labels]))): float(value) for (it, *labels), value in SAID.items()}
+            problems += differ([(f"metrics {form}, {key}", new.get(key), wanted.get(key)) for key in sorted({*new, *wanted}) if f"127.0.0.1:{node.port}" not in dict(key[1]).values()])
+        shown, other = web.node(0), web.node(1)
+        problems += differ([("numbers", shown["stats"], {"memory": "47185920", "connections": "5", "most_connections": "11", "version": "1.2.3", "guarded": True, "seconds": "7260",
+                                                         "rows": "40", "keys": "7"}),
+                            ("tables", (shown["tables"], shown["tables_count"]), ([1, 2, 65535], 3)), ("tables are asked for once", telling.asked[OF_TABLES], 1),
+                            ("an earlier release", (other["up"], other["error"], other["stats"], other["tables"], other["tables_count"], other["readable"]), (True, "", None, None, None, str(LAST))),
+                            ("it is asked once", (old.asked[STATS], old.asked[OF_TABLES]), (1, 0)), ("no error is counted", dict(web.server.nodes[other["node"]].meters.refused()), {90: 0}),
+                            ("the look goes on", waited(lambda: web.metric("vadungsil_answer_seconds_count", node=name, kind="delta") > 9) < LIMIT, True)])
+        told._tables_at = (0, 0.0)      # as if it had been asked long ago, and had done something since
+        waited(lambda: telling.asked[OF_TABLES] == 2)
+    report("a node's numbers and tables, and none of an earlier release", problems)
+
+
 def imported(text, count):
     """Prometheus's parser takes the text, once each sample has the time that an import wants, and finds as many series."""
     stamped = "".join(line + ("\n" if line.startswith("#") else " 1700000000\n") for line in text.splitlines())
@@ -634,7 +669,7 @@ def page():
 
 # the longest first
 CHECKS = (look, large_bodies, pictures, away_and_back, events, page, command, limits, answers, many_rows, refusals, unequal, bad_requests, damaged, silent_node, held_back, metrics,
-          forms, own_process, interface, files)
+          forms, numbers, own_process, interface, files)
 
 
 def browser(words):

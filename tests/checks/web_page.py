@@ -2,6 +2,7 @@
 python3-selenium. Chromium runs without its sandbox (--no-sandbox), since the gate runs as root, which Chromium's sandbox refuses; it opens
 nothing but the pages of this test on 127.0.0.1."""
 import contextlib
+import datetime
 import pathlib
 import sys
 import time
@@ -14,6 +15,7 @@ from selenium.webdriver.support.ui import Select
 
 sys.path.append(str(pathlib.Path(__file__).resolve().parents[1] / "lib"))
 from checks import differ, guarded, report, timed
+from telling import Telling
 from web_parts import FRAMES, LAST, LIMIT, STREAMS, Served, changes_of, fed, log_of, nodes, quiet_port, rows_at, va, waited, web_of
 
 ALL = "kind=range&table=1&low=0&high=18446744073709551615"
@@ -263,6 +265,8 @@ READ = {b"\xff\x00\xfe": "\\xff00fe", b"": "empty"}
 LONG = '{"id":18446744073709551615,"in":[%s]}' % ",".join("1" * 30)
 MORE_BODIES = ((b"[1]", "[1]"), (LONG.encode(), '{\n  "id": 18446744073709551615,\n  "in": [\n%s\n  ]\n}' % ",\n".join(["    1"] * 30)), ((LONG + "}").encode(), LONG + "}"), (b"{", "{"), (b"12", "12"), ("Zo\u00eb \u6771".encode(), "Zo\u00eb \u6771"), (b"a\nb", "\\x610a62"), ("a\u202eb".encode(), "\\x61e280ae62"),
                ('["\u202e"]'.encode(), "\\x" + '["\u202e"]'.encode().hex()), (b'{\n "a":1}', '{\n  "a": 1\n}'), (b"\xc3", "\\xc3"))
+# the columns of what a node tells of itself
+TOLD = ("memory", "connections", "version", "guarded", "up since")
 OVERVIEW = "return [...document.querySelectorAll('#overview tbody tr')].map(line => [...line.children].map(cell => [cell.dataset.name ?? 'node', cell.textContent]))"
 # of each text that is shown: how high its letters are, in points of the window
 SIZES = """const found = []; const walk = document.createTreeWalker(document.body, NodeFilter.SHOW_TEXT);
@@ -311,7 +315,7 @@ def browser_overview(driver):
         web = stack.enter_context(web_of([new.port, old.port], messages=2, every=0.2, names={"tables": {1: "orders"}, "streams": {1: "east", 2: "a very long name"}}))
         page = Page(driver, web, ALL)
         waited(lambda: overview_of(driver) and len(web.node(1)["lags"]) > 3, 10)
-        first, second = [{name: text for name, text in line.items() if name not in ("seen up for", "lag lately")} for line in overview_of(driver)]
+        first, second = [{name: text for name, text in line.items() if name not in ("seen up for", "lag lately", *TOLD)} for line in overview_of(driver)]
         wanted = lambda port, readable, lag, operations: {"node": f"127.0.0.1:{port}", "state": "up", "resolved time": str(readable), "oldest readable": "0", "lag": lag, "operations": str(operations)}
         problems += differ([("the newest", first, {**wanted(new.port, 6, "none", 3), "least pinned": "2"}),
                             ("the one behind", second, {**wanted(old.port, 3, "3 commits, lacks 3 entries of others", 2), "least pinned": ""}),
@@ -368,6 +372,37 @@ def browser_clock(driver):
 
 # the middles of the slider and its two buttons, by height
 ROW = "return ['back', 'slider', 'on'].map(name => { const box = document.getElementById(name).getBoundingClientRect(); return (box.top + box.bottom) / 2; })"
+HELD = """return [...document.querySelectorAll('#held p')].map(line => [line.textContent, [...line.querySelectorAll('a')].map(it => it.getAttribute('href'))])"""
+
+
+def browser_numbers(driver):
+    """What a node tells of itself stands in its row, and its tables as links to their rows; of one of an earlier release nothing."""
+    problems = []
+    with nodes(1, words=("--messages", "2")) as (node,), Telling(node.port) as telling, Telling(node.port, None) as old, \
+            web_of([telling.port, old.port], messages=2, every=0.2, names={"tables": {2: "orders"}}) as web:
+        page = Page(driver, web, ALL)
+        waited(lambda: overview_of(driver) and "memory" in overview_of(driver)[0] and driver.execute_script(HELD), 10)
+        first, second = [{name: line.get(name) for name in TOLD} for line in overview_of(driver)]
+        began = datetime.datetime.now(datetime.timezone.utc) - datetime.timedelta(seconds=7_260)
+        since = first.pop("up since")
+        problems += differ([("its numbers", first, {"memory": "45.0 MiB", "connections": "5, 11 at most", "version": "1.2.3", "guarded": "yes"}),
+                            ("since when", abs((datetime.datetime.strptime(since, "%Y-%m-%d %H:%M UTC").replace(tzinfo=datetime.timezone.utc) - began).total_seconds()) < 120, True),
+                            ("an earlier release", second, dict.fromkeys(TOLD, "")),
+                            ("tables", driver.execute_script(HELD), [[f"127.0.0.1:{telling.port}: 3 tables: 1, orders, 65535", [f"/?kind=range&table={it}&view=auto" for it in (1, 2, 65535)]]])])
+        link = driver.find_elements(By.CSS_SELECTOR, "#held a")[2]
+        driver.execute_script("arguments[0].focus()", link)
+        time.sleep(1.5)
+        problems += differ([("a link keeps its focus", driver.execute_script("return document.activeElement === arguments[0]", link), True)])
+        link.click()
+        waited(lambda: "table=65535" in driver.current_url and page.at() == str(LAST), 10)
+        problems += differ([("its rows", page.rows(), [[], []])])
+    with nodes(1, words=("--messages", "2")) as (node,), Telling(node.port, None) as old, web_of([old.port], messages=2, every=0.2) as web:
+        page = Page(driver, web, ALL)
+        waited(lambda: overview_of(driver) and overview_of(driver)[0].get("operations"), 10)
+        problems += differ([("all of an earlier release: no columns", set(overview_of(driver)[0]) & set(TOLD), set()), ("no tables", page.it("held").is_displayed(), False)])
+    report("a node's numbers in its row, and its tables", problems)
+
+
 LATELY = "return [...document.querySelectorAll('#overview [data-name=\"lag lately\"]')].map(cell => cell.children.length)"
 
 
@@ -390,7 +425,7 @@ def browser_widths(driver):
     report("the page at 1180 and at 390 points", problems)
 
 
-CHECKS = (browser_slider, browser_text, browser_read, browser_away, browser_unequal, browser_changes, browser_wide, browser_more, browser_live, browser_later, browser_overview, browser_clock, browser_widths)
+CHECKS = (browser_slider, browser_text, browser_read, browser_away, browser_unequal, browser_changes, browser_wide, browser_more, browser_live, browser_later, browser_overview, browser_numbers, browser_clock, browser_widths)
 
 
 def run(words):

@@ -71,7 +71,7 @@ def later_request_of(value):
             "whole": lambda: later.Whole(value["base"], value["part_bytes"]), "add": lambda: later.AddPart(facts_of(value["facts"])),
             "join parts": lambda: later.JoinParts(head_of(value["head"])), "merge parts": lambda: later.MergeParts(head_of(value["head"])),
             "feed": lambda: later.Feed(tuple(map(item_of, value["items"]))), "hold": lambda: later.AskHold(value["time"]), "release": lambda: later.Release(value["number"]),
-            "await": lambda: later.Await(value["time"], value["milliseconds"])}[kind]()
+            "await": lambda: later.Await(value["time"], value["milliseconds"]), "stats": later.AskStats, "tables": later.AskTables}[kind]()
 
 
 def later_reply_of(value):
@@ -83,4 +83,5 @@ def later_reply_of(value):
             "part": lambda: later.Part(facts_of(value["facts"]), value["left"]), "added": lambda: later.Added(value["count"]),
             "last part": lambda: later.LastPart(facts_of(value["facts"]), head_of(value["head"])),
             "fed": lambda: later.Fed(value["operations"], value["new"]), "held": lambda: later.Held(value["number"], value["time"]),
-            "ready": lambda: later.Ready(value["horizon"], value["readable"]), "refused": lambda: va.Refused(value["number"], *value["values"])}[kind]()
+            "ready": lambda: later.Ready(value["horizon"], value["readable"]), "stats": lambda: later.Stats(tuple(map(tuple, value["metrics"]))),
+            "tables": lambda: later.Tables(tuple(value["tables"])), "refused": lambda: va.Refused(value["number"], *value["values"])}[kind]()

@@ -78,10 +78,10 @@ def quiet_port():
 
 
 @contextlib.contextmanager
-def nodes(count=1, frames=None, streams=STREAMS, links=16):
+def nodes(count=1, frames=None, streams=STREAMS, links=16, words=()):
     """So many nodes that took the log."""
     with contextlib.ExitStack() as stack:
-        found = [stack.enter_context(Served(links, streams=streams)) for _ in range(count)]
+        found = [stack.enter_context(Served(links, streams=streams, words=words)) for _ in range(count)]
         for node in found:
             fed(node.port, frames)
         yield found

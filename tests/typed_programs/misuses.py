@@ -20,5 +20,7 @@ def misused(node: Node, log: LogWriter, other: AsyncNode) -> int:
     print(list(other.changes(3)))      # refused: it is asynchronous
     later.AskPage("1", 2)      # refused: a time is a number
     print(node.status().free)      # refused: no such field
+    print(node.stats().memory + 1)      # refused: it may be None
+    print(other.tables()[0])      # refused: it has to be awaited
     Mark(7, 1, 2)      # refused: without m
     return Row(1, b"")      # refused: no number

@@ -2,7 +2,7 @@
 from __future__ import annotations
 
 import asyncio
-from typing import Iterator, List, Optional, Tuple, Union
+from typing import Dict, Iterator, List, Optional, Tuple, Union
 
 import vadungsil
 from vadungsil import (AsyncChanges, AsyncNode, Change, Changes, Count, Entry, Feeder, Fragment, Front, Get, Hold, Item, KeyRow, LinkBroken, Later, LogWriter, Mark, Member, NameCollision,
@@ -73,6 +73,12 @@ def between(one: Node, other: Node) -> int:
 def later_version(node: Node, other: Node) -> Optional[Row]:
     status: later.Streams = node.status()
     held: Optional[int] = status.least_hold
+    stats: later.Stats = node.stats()
+    memory: Optional[int] = stats.memory
+    door: Dict[int, int] = stats.most_open
+    unknown: Dict[int, Dict[int, int]] = stats.other
+    tables: List[int] = node.tables()
+    print((memory or 0) + door.get(0, 0) + len(unknown) + sum(tables), stats.version, stats.guarded)
     time, row = node.latest(Get(1, 5))
     _, rows = node.latest(Range(1))
     _, count = node.latest(Count(1))
@@ -102,6 +108,12 @@ def waited(node: Node, nodes: Nodes) -> List[Change]:
     later.encode_reply(later.Ready(front.horizon, front.readable))
     feed.close()
     return found
+
+
+async def counted(node: AsyncNode) -> int:
+    stats: later.Stats = await node.stats()
+    tables: List[int] = await node.tables()
+    return (stats.seconds or 0) + len(tables)
 
 
 async def awaited(node: AsyncNode) -> Optional[Row]:

@@ -26,6 +26,7 @@ from .link import (
 from .messages import MOST_MESSAGE, encode_request
 from .node import _ends_link
 from .requests import Moment, Read, Requests, ask_frame, feeding, logs_of, other_log, read_done, value_of, version_seen
+from .stats import Stats
 from .transfer import least_of
 from .later_values import (
     Page,
@@ -115,6 +116,8 @@ class AsyncNode(
         Awaitable[Tuple[int, List[KeyRow]]],
         Awaitable[Tuple[int, int]],
         Awaitable[Operations],
+        Awaitable[Stats],
+        Awaitable[List[int]],
     ]
 ):
     """As `Node`, with awaitable answers: `async with AsyncNode(7420) as node:`, `await node.get(1, 5)`.

@@ -39,6 +39,7 @@ from .later_values import (
     StreamTold,
     Whole,
 )
+from .stats import AskStats, AskTables, Metric, Stats, Tables
 from .values import (
     FragmentHead as Head,
 )
@@ -52,7 +53,9 @@ __all__ = [
     "AskHold",
     "AskLatest",
     "AskPage",
+    "AskStats",
     "AskStreams",
+    "AskTables",
     "Await",
     "Done",
     "Fed",
@@ -65,6 +68,7 @@ __all__ = [
     "LaterRequest",
     "Latest",
     "MergeParts",
+    "Metric",
     "More",
     "Page",
     "Part",
@@ -75,8 +79,10 @@ __all__ = [
     "ReplyFeeder",
     "Request",
     "RequestFeeder",
+    "Stats",
     "StreamTold",
     "Streams",
+    "Tables",
     "Whole",
     "decode_reply",
     "decode_request",

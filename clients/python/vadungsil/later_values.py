@@ -5,6 +5,7 @@ from dataclasses import dataclass
 from typing import Iterable, Optional, Tuple, Union
 
 from .errors import Fault, Refused
+from .stats import AskStats, AskTables, Stats, Tables
 from .values import (
     LAST_KEY,
     LAST_TIME,
@@ -162,7 +163,20 @@ class Await:
 
 
 LaterRequest = Union[
-    AskStreams, AskLatest, AskPage, Whole, More, AddPart, JoinParts, MergeParts, AskHold, Release, Feed, Await
+    AskStreams,
+    AskLatest,
+    AskPage,
+    Whole,
+    More,
+    AddPart,
+    JoinParts,
+    MergeParts,
+    AskHold,
+    Release,
+    Feed,
+    Await,
+    AskStats,
+    AskTables,
 ]
 Request = Union[Items, AskFront, Delta, Full, Ask, JoinThis, MergeThis, Prune, LaterRequest]
 
@@ -343,5 +357,5 @@ class Ready(Front):
         return f"ready {self._times()}"
 
 
-LaterReply = Union[LaterDone, Streams, Latest, Page, Part, LastPart, Added, Held, Fed, Ready]
+LaterReply = Union[LaterDone, Streams, Latest, Page, Part, LastPart, Added, Held, Fed, Ready, Stats, Tables]
 Reply = Union[Done, Front, Fragment, Answer, LaterReply, Refused]

@@ -9,6 +9,7 @@ from .errors import Fault, Refused, refusal
 from .items import LEAST_REST, MOST_REST, encode
 from .reading import Bytes, FrameFeeder, Reader, Value, whole_frame
 from .reasons import REASONS
+from .stats import AskStats, AskTables, Metric, Stats, Tables
 from .later_values import (
     MOST_WAIT,
     AddPart,
@@ -143,6 +144,14 @@ def _streams_bytes(it: Streams) -> bytes:
     streams = b"".join(struct.pack(">QQQQ", of.prefix, of.closed, of.extra, of.waiting) for of in it.streams)
     first = struct.pack(">QQQBQ", it.log, it.horizon, it.readable, it.damaged, it.operations)
     return first + held + struct.pack(">H", len(it.streams)) + streams
+
+
+def _stats_bytes(it: Stats) -> bytes:
+    return struct.pack(">I", len(it.metrics)) + b"".join(struct.pack(">HHQ", *metric) for metric in it.metrics)
+
+
+def _tables_bytes(it: Tables) -> bytes:
+    return struct.pack(f">I{len(it.tables)}H", len(it.tables), *it.tables)
 
 
 def rows_bytes(rows: Sequence[KeyRow]) -> bytes:
@@ -429,6 +438,30 @@ def _streams_at(reader: Reader) -> Streams:
     return Streams(log, front.horizon, front.readable, damaged, operations, held, streams)
 
 
+def _stats_at(reader: Reader) -> Stats:
+    count, metrics = reader.u32("count of metrics"), []
+    last = (-1, -1)
+    for _ in range(count):
+        place = (reader.u16("name of a metric"), reader.u16("label of a metric"))
+        if place <= last:
+            raise reader.fault(7, "name and label of a metric", 4)
+        last = place
+        metrics.append(Metric(*place, reader.u64("value of a metric")))
+    return Stats(tuple(metrics))
+
+
+def _tables_at(reader: Reader) -> Tables:
+    count, tables = reader.u32("count of tables"), []
+    last = -1
+    for _ in range(count):
+        table = reader.u16("table")
+        if table <= last:
+            raise reader.fault(7, "table", 2)
+        last = table
+        tables.append(table)
+    return Tables(tuple(tables))
+
+
 def _page_at(reader: Reader) -> Page:
     more = _flag_at(reader, "whether more follow")
     page: Page = _made(Page, rows=_rows_at(reader), more=more)
@@ -487,6 +520,8 @@ REQUESTS: Dict[int, Kind] = {
     57: Kind((Release,), lambda it: _U64(it.number), lambda it: Release(_positive_at(it, "number of a pin"))),
     58: Kind((Feed,), lambda it: items_bytes(it.items), lambda it: Feed(_items_at(it).items)),
     59: Kind((Await,), lambda it: struct.pack(">QI", it.time, it.milliseconds), _await_at),
+    60: Kind((AskStats,), lambda it: b"", lambda _: AskStats()),
+    61: Kind((AskTables,), lambda it: b"", lambda _: AskTables()),
 }
 
 REPLIES: Dict[int, Kind] = {
@@ -518,6 +553,8 @@ REPLIES: Dict[int, Kind] = {
         lambda it: Fed(_operations_at(it), it.u64("new items")),
     ),
     74: Kind((Ready,), _front_bytes, _ready_at),
+    75: Kind((Stats,), _stats_bytes, _stats_at),
+    76: Kind((Tables,), _tables_bytes, _tables_at),
 }
 
 

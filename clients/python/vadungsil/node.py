@@ -23,6 +23,7 @@ from .requests import (
     read_front,
     version_seen,
 )
+from .stats import Stats
 from .transfer import AnyPart, Hold, least_of, parts_from, parts_to
 from .later_values import (
     PART_BYTES,
@@ -86,6 +87,8 @@ class Node(
         Tuple[int, Rows_],
         Tuple[int, int],
         Operations,
+        Stats,
+        List[int],
     ]
 ):
     """A node: `Node(7420)`, `Node("127.0.0.1:7420")`, `Node("[::1]:7420")`, `Node("unix:/run/node.sock")`. `Node()` is
@@ -99,7 +102,8 @@ class Node(
     asked that was started just before.
 
     `messages` is the latest version of messages that the node reads, 1 or 2, where the caller knows. Else items are
-    sent in version 1, until the node has answered a request of version 2 (`latest`, `page`, `status`).
+    sent in version 1, until the node has answered a request of version 2 (`latest`, `page`, `status`, `stats`,
+    `tables`).
 
     `Node("tls://HOST:PORT", ca=.., cert=.., key=..)` asks over TLS, through what stands before the node there: its
     certificate is for that host, signed by one of the file `ca`, or of the system; ours is in the file `cert`, with its
@@ -363,6 +367,8 @@ class Pipeline(
         "Later[Tuple[int, Rows_]]",
         "Later[Tuple[int, int]]",
         "Later[Operations]",
+        "Later[Stats]",
+        "Later[List[int]]",
     ]
 ):
     """Requests that are sent together when the block is left, or by `run`. Each gives a `Later`; what a node refuses is

@@ -7,6 +7,7 @@ from typing import Any, Callable, Dict, Generic, Iterable, Iterator, List, Optio
 from .errors import Fault, Refused
 from .messages import encode_request, framed, items_bytes, query_bytes, reply_of
 from .reading import Bytes
+from .stats import Stats, Tables
 from .later_values import (
     AskLatest,
     AskPage,
@@ -51,6 +52,8 @@ LatestRowT = TypeVar("LatestRowT")
 LatestRowsT = TypeVar("LatestRowsT")
 LatestNumberT = TypeVar("LatestNumberT")
 OperationsT = TypeVar("OperationsT")
+StatsT = TypeVar("StatsT")
+TablesT = TypeVar("TablesT")
 Read = Callable[[bytes], Any]
 
 NOT_READ = "the node reads messages of version 1 alone (hkrep serve --messages 2)"
@@ -59,6 +62,8 @@ NOT_KNOWN = "the node is of an earlier release and doesn't know this request, or
 FRONT = framed(17, b"")
 FULL = framed(19, b"")
 STREAMS = framed(48, b"")
+STATS = framed(60, b"")
+TABLES = framed(61, b"")
 
 
 def ask_frame(time: int, query: Query) -> bytes:
@@ -158,6 +163,15 @@ def read_streams(rest: bytes) -> Streams:
     return streams
 
 
+def read_stats(rest: bytes) -> Stats:
+    stats: Stats = value_of(rest, Stats, latest=2)
+    return stats
+
+
+def read_tables(rest: bytes) -> List[int]:
+    return list(value_of(rest, Tables, latest=2).tables)
+
+
 def read_latest(rest: bytes, query: Query) -> Tuple[int, Any]:
     latest: Latest = value_of(rest, Latest, latest=2)
     return latest.time, _value_of_answer(latest.answer, query)
@@ -253,7 +267,19 @@ class Reads(Generic[RowT, RowsT, NumberT]):
 class Requests(
     Reads[RowT, RowsT, NumberT],
     Generic[
-        RowT, RowsT, NumberT, FrontT, FragmentT, StreamsT, PageT, LatestRowT, LatestRowsT, LatestNumberT, OperationsT
+        RowT,
+        RowsT,
+        NumberT,
+        FrontT,
+        FragmentT,
+        StreamsT,
+        PageT,
+        LatestRowT,
+        LatestRowsT,
+        LatestNumberT,
+        OperationsT,
+        StatsT,
+        TablesT,
     ],
 ):
     """All requests of docs/PROTOCOL.md. A change gives the number of the node's operations that ends with it."""
@@ -309,6 +335,16 @@ class Requests(
     def status(self) -> StreamsT:
         """How far the node is, and each of its streams (`later.Streams`): also of a failed node."""
         return self._call(STREAMS, read_streams)
+
+    def stats(self) -> StatsT:
+        """What the node counts (`later.Stats`): what it holds, memory, connections, requests, refusals. Also of a
+        failed node. 4: the node is of an earlier release."""
+        return self._call(STATS, read_stats)
+
+    def tables(self) -> TablesT:
+        """The tables of which the node holds anything, a row or an end of a version, by rising number. 4: the node is
+        of an earlier release."""
+        return self._call(TABLES, read_tables)
 
     @overload
     def latest(self, query: Get) -> LatestRowT:

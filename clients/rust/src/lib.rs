@@ -142,6 +142,26 @@ impl Replica {
         Ok(rows_of(&self.buffer[..n]))
     }
 
+    /// The first rows of `range`, at most `most` of them, and whether others follow: those with keys above the last one.
+    pub fn range_page(&mut self, time: u64, table: u16, low: u64, high: u64, most: u32) -> Result<(Vec<(u64, Row)>, bool), Refused> {
+        let mut page = sys::Page::default();
+        done(unsafe {
+            sys::hk_range_page(&mut self.handle, time, table, low, high, most, self.buffer.as_mut_ptr(), self.buffer.len(), &mut page)
+        })?;
+        self.rest(page.len);
+        Ok((rows_of(&self.buffer[..page.len]), page.more))
+    }
+
+    /// The first rows of `by_tag`, at most `most` of them, and whether others follow. It costs as much as `by_tag`.
+    pub fn by_tag_page(&mut self, time: u64, table: u16, tag: u32, low: u64, most: u32) -> Result<(Vec<(u64, Row)>, bool), Refused> {
+        let mut page = sys::Page::default();
+        done(unsafe {
+            sys::hk_by_tag_page(&mut self.handle, time, table, tag, low, most, self.buffer.as_mut_ptr(), self.buffer.len(), &mut page)
+        })?;
+        self.rest(page.len);
+        Ok((rows_of(&self.buffer[..page.len]), page.more))
+    }
+
     /// From where to where it can be read.
     pub fn front(&mut self) -> Result<Bounds, Refused> {
         let mut it = sys::Bounds::default();

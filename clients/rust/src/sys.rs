@@ -21,6 +21,15 @@ pub struct Bounds {
     pub ops: u64,
 }
 
+#[repr(C)]
+#[derive(Default)]
+pub struct Page {
+    pub more: bool,
+    pub rows: usize,
+    pub last: u64,
+    pub len: usize,
+}
+
 extern "C" {
     pub fn hk_open(handle: *mut Handle, log: u64, streams: u16) -> u8;
     pub fn hk_close(handle: *mut Handle);
@@ -32,6 +41,8 @@ extern "C" {
     pub fn hk_count(handle: *mut Handle, time: u64, table: u16, count: *mut u64) -> u8;
     pub fn hk_range(handle: *mut Handle, time: u64, table: u16, low: u64, high: u64, out: *mut u8, room: usize, needed: *mut usize) -> u8;
     pub fn hk_by_tag(handle: *mut Handle, time: u64, table: u16, tag: u32, low: u64, out: *mut u8, room: usize, needed: *mut usize) -> u8;
+    pub fn hk_range_page(handle: *mut Handle, time: u64, table: u16, low: u64, high: u64, most: u32, out: *mut u8, room: usize, page: *mut Page) -> u8;
+    pub fn hk_by_tag_page(handle: *mut Handle, time: u64, table: u16, tag: u32, low: u64, most: u32, out: *mut u8, room: usize, page: *mut Page) -> u8;
     pub fn hk_front(handle: *mut Handle, bounds: *mut Bounds) -> u8;
     pub fn hk_prune(handle: *mut Handle, horizon: u64) -> u8;
     pub fn hk_merge(handle: *mut Handle, peer: *mut Handle) -> u8;

@@ -1,5 +1,5 @@
 -- What a call from outside does to a replica.
-use Rattle.std.specs.Prelude.{◌≡◌, ◌≢◌, ◌≤◌, ◌<◌, ℕ, Bool, ◌++◌, ◌⊎◌, ◌^◌, ◌==◌, if◌then◌else◌, List, [], Option, Some, None, Result, Ok, Err, IsOk, true, false, length, min, take, drop, nat_le, nat_lt}
+use Rattle.std.specs.Prelude.{◌≡◌, ◌≢◌, ◌≤◌, ◌<◌, ℕ, Bool, ◌++◌, ◌⊎◌, ◌^◌, ◌==◌, if◌then◌else◌, List, [], Option, Some, None, Result, Ok, Err, IsOk, true, false, length, min, take, drop, nat_lt}
 use Rattle.std.specs.List.{flat_map}
 use Rattle.hk_types.specs.Values.{RowValue}
 use Rattle.hk_types.specs.FaultNumbers.{fault_number, refusal_number}
@@ -27,7 +27,6 @@ use Rattle.hk_types.specs.Values.{ConfigValue}
 use Rattle.hk_types.specs.Numbers.{checked_config}
 use Rattle.hk_model.specs.Replica.Replicas.{empty_content}
 use Rattle.hk_query.specs.Memory.{asking_may_lack}
-use Rattle.hk_session.specs.Values.{HostValue}
 use Rattle.hk_session.specs.Steps.{Step}
 use Rattle.hk_session.specs.Transcript.{Transcript, PartialTranscript, IsDone, IsStopped}
 use Rattle.hk_session.specs.Endings.{ended_number}

@@ -1,4 +1,6 @@
-//! What a call reports of a row, and of a replica.
+//! What a call reports of a row, of a page of rows, and of a replica.
+
+ghost use Rattle.hk_c.specs.Pages.{TellsNothing};
 
 /// Whether there is a row, its tag, and how many bytes its body has.
 #[repr(C)]
@@ -16,4 +18,29 @@ pub struct Bounds {
     pub horizon: u64,
     pub readable: u64,
     pub ops: u64,
+}
+
+/// Whether other rows follow a page, how many rows it has, the key of its last row, or 0 where it has none, and how many
+/// bytes its rows have.
+#[repr(C)]
+#[derive(Drop)]
+pub struct Paged {
+    pub more: bool,
+    pub rows: usize,
+    pub last: u64,
+    pub len: usize,
+}
+
+impl Paged {
+    /// What is told where there is no page.
+    pub(crate) fn nothing() -> Paged
+        ensures { TellsNothing result }
+    {
+        Paged {
+            more: false,
+            rows: 0,
+            last: 0,
+            len: 0,
+        }
+    }
 }

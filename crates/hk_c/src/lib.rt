@@ -4,18 +4,20 @@
 ghost use Rattle.std.specs.Prelude.{◌≡◌, ◌++◌, true, None, Some, length, min, take, drop};
 ghost use Rattle.std.specs.Option.{option_copied};
 ghost use Rattle.hk_c.specs.Calls.{AbsorbedAt, AtLive, Bounded, Called, Counts, Finished, Got, Listed, MergedAt, Opened, PrunedAt, Ranged, Tagged, Told, Worded, Wrote, asks_rows, copied_into, kept_reply};
+ghost use Rattle.hk_c.specs.Pages.{RangePaged, TagPaged, WritesFound};
 
 mod changes;
 mod found;
 mod handle;
 mod listing;
 mod loose;
+mod paging;
 mod replica;
 mod words;
 
-pub use found::{Bounds, Found};
+pub use found::{Bounds, Found, Paged};
 pub use handle::Handle;
-use hk_model::Query;
+use hk_model::{Page, Query};
 use hk_state::front_of;
 use hk_types::{Key, Refusal, Row, Table, Tag};
 pub use replica::Replica;
@@ -328,6 +330,99 @@ pub extern "C" fn hk_by_tag(
     let (table, tag) = (Table::new(table), Tag::new(tag));
     let query = Query::ByTag { table, tag };
     list(alloc, handle, time, &query, Key::new(low), out, needed)
+}
+
+/// Keeps the rows of a page that was found, writes as much of them as there is room, and tells what there is of it.
+/// 0, or the number of the refusal.
+fn write_page(
+    alloc: Global,
+    replica: &mut Replica,
+    found: Result<Page, Refusal>,
+    told: &mut Paged,
+    out: &mut [u8],
+) -> u8
+    ensures { WritesFound replica.old replica.new found told.new out.old out.new result }
+{
+    *told = Paged::nothing();
+    let page = match found {
+        Err(why) => return why.number(),
+        Ok(page) => page,
+    };
+    match replica.keep_page(alloc, &page) {
+        Err(_refused) => MEMORY,
+        Ok(kept) => {
+            *told = kept;
+            let _copied = copy_prefix(replica.reply(), out);
+            0
+        }
+    }
+}
+
+/// The first rows of a table from a low key to a high one, both inside, at a time: at most `most` of them, and no more
+/// than 268,435,449 bytes. They are written as those of `hk_range`, and `page` tells whether others follow, how many
+/// rows there are, the key of the last, and how many bytes they have: the page after it has `low` above that key.
+/// Returns 0, or the number of the refusal (25, 26, 6, 90), or 255 at a closed handle, and then `page` is all zeros.
+/// Cost: O(log n + k · log n + b), n facts, k keys up to the first row that is left out, b bytes of the page.
+#[unsafe(no_mangle)]
+pub extern "C" fn hk_range_page(
+    alloc: Global,
+    handle: &mut Handle,
+    time: u64,
+    table: u16,
+    low: u64,
+    high: u64,
+    most: u32,
+    out: &mut [u8],
+    page: &mut Paged,
+) -> u8
+    ensures { RangePaged handle.old.replica handle.new.replica time table low high most
+        page.new out.old out.new result }
+{
+    match replace(handle, Handle::none()).into_box(alloc) {
+        None => {
+            *page = Paged::nothing();
+            CLOSED
+        }
+        Some(mut replica) => {
+            let (table, low, high) = (Table::new(table), Key::new(low), Key::new(high));
+            let found = replica.page_of_range(alloc, time, table, low, high, most);
+            let number = write_page(alloc, &mut replica, found, page, out);
+            put_back(alloc, handle, replica);
+            number
+        }
+    }
+}
+
+/// The first rows of a table with a tag, from a key on, at a time: at most `most` of them, written and told as those of
+/// `hk_range_page`, whose numbers it returns. Cost and memory: those of `hk_by_tag`, whatever `most` is.
+#[unsafe(no_mangle)]
+pub extern "C" fn hk_by_tag_page(
+    alloc: Global,
+    handle: &mut Handle,
+    time: u64,
+    table: u16,
+    tag: u32,
+    low: u64,
+    most: u32,
+    out: &mut [u8],
+    page: &mut Paged,
+) -> u8
+    ensures { TagPaged handle.old.replica handle.new.replica time table tag low most
+        page.new out.old out.new result }
+{
+    match replace(handle, Handle::none()).into_box(alloc) {
+        None => {
+            *page = Paged::nothing();
+            CLOSED
+        }
+        Some(mut replica) => {
+            let (table, tag, low) = (Table::new(table), Tag::new(tag), Key::new(low));
+            let found = replica.page_of_tag(alloc, time, table, tag, low, most);
+            let number = write_page(alloc, &mut replica, found, page, out);
+            put_back(alloc, handle, replica);
+            number
+        }
+    }
 }
 
 /// Applies the next piece of a stream of item frames: the items of the frames that are complete now, all or none of them.

@@ -3,6 +3,7 @@
 ghost use Rattle.std.specs.Prelude.{◌≡◌, ◌++◌, OnOk};
 ghost use Rattle.hk_values.specs.Answers.{keyed_text};
 ghost use Rattle.hk_c.specs.Calls.{rows_text, text_from};
+ghost use Rattle.hk_c.specs.Pages.{page_text};
 
 use hk_frames::{put_body, put_u32, put_u64};
 use hk_types::{Key, Row};
@@ -34,6 +35,17 @@ pub(crate) fn put_rows(out: &mut Vec<u8>, rows: &[(Key, Row)], low: Key) -> Resu
 {
     for (key, row) in rows {
         put_from(out, low, *key, row)?;
+    }
+    Ok(())
+}
+
+/// Adds the bytes of these rows.
+#[tactic(auto, using(std::proofs::Common::append_assoc))]
+pub(crate) fn put_all(out: &mut Vec<u8>, rows: &[(Key, Row)]) -> Result<(), AllocError>
+    ensures { OnOk result (out.new.items ≡ out.old.items ++ page_text rows.now) }
+{
+    for (key, row) in rows {
+        put_keyed(out, *key, row)?;
     }
     Ok(())
 }

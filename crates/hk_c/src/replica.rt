@@ -98,7 +98,12 @@ impl Replica {
     }
 
     /// The rows that are answered to a query for rows at a time.
-    fn rows(&self, alloc: Global, time: u64, query: &Query) -> Result<Vec<(Key, Row)>, Refusal>
+    pub(crate) fn rows(
+        &self,
+        alloc: Global,
+        time: u64,
+        query: &Query,
+    ) -> Result<Vec<(Key, Row)>, Refusal>
         requires { asks_rows query.now ≡ true }
         ensures ok { IfOk result (λ rows. asked_reply self.now.host.content time query.now ≡ Ok (Rows rows.items)) }
         ensures err { IfErr result (WhyNot self.now.host.content time query.now) }
@@ -128,6 +133,13 @@ impl Replica {
         put_rows(&mut text, &rows, low)?;
         self.reply = text;
         Ok(())
+    }
+
+    /// Keeps a text in the place of the last reply.
+    pub(crate) fn keep(&mut self, text: Vec<u8>)
+        ensures { self.new ≡ record self.old { reply = text.items } }
+    {
+        self.reply = text;
     }
 
     /// The replies to the last requests, or the text of the last rows.

@@ -6,9 +6,11 @@ from concurrent.futures import ThreadPoolExecutor
 from typing import Any, Callable, Dict, List, Mapping, Optional, Tuple
 
 from ..errors import Refused
+from ..stats import Stats
 from ..values import Front, KeyRow, Row
 from .questions import PARAMETERS, TIMES, BadQuestion, Found, Question, changes_between, found_by, question_of, time_in
-from .watch import Away, State, StreamState, Watched
+from .state import State, StreamState
+from .watch import Away, Watched
 
 Json = Dict[str, Any]
 Answer = Tuple[int, Json]
@@ -60,6 +62,25 @@ def json_of_stream(stream: StreamState) -> Json:
     }
 
 
+# So many tables of a node are told; the count is of all.
+TABLES_SHOWN = 256
+
+
+def json_of_stats(stats: Stats) -> Json:
+    """What a node tells of itself; None is what it doesn't tell. Connections, and the most at
+    once, are summed over its ports."""
+    return {
+        "memory": text_of(stats.memory),
+        "connections": str(sum(stats.open.values())),
+        "most_connections": str(sum(stats.most_open.values())),
+        "version": stats.version,
+        "guarded": stats.guarded,
+        "seconds": text_of(stats.seconds),
+        "rows": text_of(stats.rows),
+        "keys": text_of(stats.keys),
+    }
+
+
 def json_of_node(watched: Watched) -> Json:
     """How a node stands; oldest readable time, resolved time and streams only where they are those of now."""
     state, age, up_for, lag, lacks = watched.state, watched.age, watched.up_for, watched.lag, watched.lacks
@@ -79,6 +100,9 @@ def json_of_node(watched: Watched) -> Json:
         "lags": [text_of(it) for it in list(watched.lags)],
         "operations": text_of(state.operations),
         "least_hold": text_of(state.least_hold),
+        "stats": None if state.stats is None else json_of_stats(state.stats),
+        "tables": None if state.tables is None else list(state.tables[:TABLES_SHOWN]),
+        "tables_count": None if state.tables is None else len(state.tables),
         "streams": [],
     }
     if state.is_known:

@@ -5,9 +5,11 @@ import platform
 from typing import Any, Callable, Dict, Iterable, List, Tuple
 
 from .. import __version__
+from ..stats import Stats
 from .exposition import Families, Family, Sample, Value
 from .meters import BOUNDS, Times
-from .watch import StreamState, Watched
+from .state import StreamState
+from .watch import Watched
 
 # ---------------------------------------------------------------- of a node
 
@@ -91,6 +93,84 @@ STREAM: List[Tuple[Family, Callable[[StreamState], Value]]] = [
     (Family("vadungsil_stream_retired", "gauge", "Whether the stream is retired."), lambda it: it.is_retired),
 ]
 
+# ---------------------------------------------------------------- what a node tells of itself
+
+TOLD: List[Tuple[Family, Callable[[Stats], Any]]] = [
+    (Family("vadungsil_node_memory_bytes", "gauge", "Bytes of memory of the node's process."), lambda it: it.memory),
+    (Family("vadungsil_node_run_seconds", "gauge", "Seconds since the node started."), lambda it: it.seconds),
+    (
+        Family("vadungsil_node_guarded", "gauge", "Whether the node refuses data that conflicts."),
+        lambda it: it.guarded,
+    ),
+    (Family("vadungsil_node_rows", "gauge", "Rows of versions that the node holds."), lambda it: it.rows),
+    (Family("vadungsil_node_ends", "gauge", "Ends of versions that the node holds."), lambda it: it.ends),
+    (Family("vadungsil_node_keys", "gauge", "Keys of tables that the node holds."), lambda it: it.keys),
+    (Family("vadungsil_node_body_bytes", "gauge", "Bytes of the bodies of its rows."), lambda it: it.body_bytes),
+    (Family("vadungsil_node_pins", "gauge", "Pinned times."), lambda it: it.pins),
+    (
+        Family("vadungsil_node_read_bytes_total", "counter", "Bytes that the node read from connections."),
+        lambda it: it.bytes_read,
+    ),
+    (
+        Family("vadungsil_node_written_bytes_total", "counter", "Bytes that the node wrote to connections."),
+        lambda it: it.bytes_written,
+    ),
+    (
+        Family("vadungsil_node_failed_accepts_total", "counter", "Connections that the node could not accept."),
+        lambda it: it.failed_accepts,
+    ),
+]
+
+BUDGETS = {0: "shared", 1: "readers"}
+# the label of each family's samples, and its words where these are not numbers
+BY_LABEL: List[Tuple[Family, str, Dict[int, str], Callable[[Stats], Dict[int, int]]]] = [
+    (
+        Family("vadungsil_node_budget_bytes", "gauge", "Bytes that may wait in the node's memory (--link-bytes)."),
+        "of",
+        BUDGETS,
+        lambda it: it.budget,
+    ),
+    (
+        Family("vadungsil_node_reserved_bytes", "gauge", "Bytes of that budget that are reserved."),
+        "of",
+        BUDGETS,
+        lambda it: it.reserved,
+    ),
+    (
+        Family("vadungsil_node_connections", "gauge", "Connections that are open, by the number of the port."),
+        "door",
+        {},
+        lambda it: it.open,
+    ),
+    (
+        Family("vadungsil_node_connections_most", "gauge", "The most connections that were open at once."),
+        "door",
+        {},
+        lambda it: it.most_open,
+    ),
+    (
+        Family("vadungsil_node_opened_total", "counter", "Connections to the node that were opened."),
+        "door",
+        {},
+        lambda it: it.opened,
+    ),
+    (
+        Family("vadungsil_node_requests_total", "counter", "Requests of all clients, by the kind byte."),
+        "kind",
+        {},
+        lambda it: it.requests,
+    ),
+    (
+        Family("vadungsil_node_refusals_total", "counter", "Errors to all clients, by number."),
+        "number",
+        {},
+        lambda it: it.refusals,
+    ),
+]
+
+TABLES = Family("vadungsil_node_tables", "gauge", "Tables of which the node holds anything.")
+VERSION = Family("vadungsil_node_version_info", "info", "The version of the node's program.")
+
 REFUSED = Family("vadungsil_refused_total", "counter", "Errors of the node to this server, by number.")
 SECONDS = Family(
     "vadungsil_answer_seconds", "histogram", "Seconds from a request of this server to the node's reply, by kind."
@@ -114,6 +194,24 @@ def _of_streams(nodes: List[Watched]) -> Families:
         yield family, [Sample({"node": name, "stream": str(it.number)}, read(it)) for name, it in known]
 
 
+def _told(nodes: List[Watched]) -> Families:
+    """What nodes tell of themselves: nothing of a node that doesn't."""
+    known = [(it.name, it.state.stats) for it in nodes if it.state.stats is not None]
+    for family, read in TOLD:
+        pairs = [(name, read(stats)) for name, stats in known]
+        yield family, [Sample({"node": name}, value) for name, value in pairs if value is not None]
+    for family, label, words, labelled in BY_LABEL:
+        yield family, [
+            Sample({"node": name, label: words.get(of, str(of))}, value)
+            for name, stats in known
+            for of, value in labelled(stats).items()
+        ]
+    tables = [(it.name, it.state.tables) for it in nodes]
+    yield TABLES, [Sample({"node": name}, len(its)) for name, its in tables if its is not None]
+    versions = [(name, stats.version) for name, stats in known]
+    yield VERSION, [Sample({"node": name, "version": its}, 1) for name, its in versions if its is not None]
+
+
 def _refused(watched: Watched) -> Iterable[Sample]:
     for number, count in watched.meters.refused().items():
         yield Sample({"node": watched.name, "number": str(number)}, count)
@@ -132,6 +230,7 @@ def of_nodes(nodes: Iterable[Watched]) -> Families:
     found = list(nodes)
     yield from _of_nodes(found)
     yield from _of_streams(found)
+    yield from _told(found)
     yield REFUSED, [sample for it in found for sample in _refused(it)]
     told = [({"node": it.name, "kind": kind}, times) for it in found for kind, times in it.meters.times().items()]
     yield SECONDS, [sample for labels, times in told for sample in _histogram(labels, times)]

@@ -35,6 +35,27 @@ export function secondsWords(seconds) {
   return `${Math.floor(whole / parts[at][0])} ${parts[at][1]}${rest ? ` ${rest} ${next[1]}` : ""}`;
 }
 
+// Bytes in words: three digits or more, and the unit.
+export function bytesWords(bytes) {
+  const units = ["B", "KiB", "MiB", "GiB", "TiB"];
+  let number = Number(bytes), at = 0;
+  while (number >= 1024 && at < units.length - 1) { number /= 1024; at++; }
+  return `${at === 0 ? number : number.toFixed(number < 10 ? 2 : number < 100 ? 1 : 0)} ${units[at]}`;
+}
+
+// When a node started, to the minute, by the seconds since.
+function sinceWords(seconds) {
+  return `${new Date(Date.now() - Number(seconds) * 1000).toISOString().replace("T", " ").slice(0, 16)} UTC`;
+}
+
+// What a node tells of itself, in the order of the columns; nothing of what it doesn't tell.
+function toldOf(stats) {
+  if (stats === null) return ["", "", "", "", ""];
+  const { memory, connections, most_connections: most, version, guarded, seconds } = stats;
+  return [memory === null || memory === "0" ? "" : bytesWords(memory), `${connections}${most === "0" ? "" : `, ${most} at most`}`, version ?? "",
+    guarded === null ? "" : guarded ? "yes" : "no", seconds === null ? "" : sinceWords(seconds)];
+}
+
 function drawn(name, attributes) {
   const it = document.createElementNS(SVG, name);
   for (const [key, value] of Object.entries(attributes)) it.setAttribute(key, String(value));
@@ -76,12 +97,13 @@ function row(node) {
   const it = make("tr", {}, make("th", { scope: "row" }, node.node), cell("state", make("span", { class: said === "up" ? "pill" : "pill no" }, said)),
     cell("resolved time", node.readable ?? "", ...(clock ? [make("span", { class: "soft" }, ` ${clock}`)] : [])), cell("oldest readable", node.horizon ?? ""), cell("lag", lagWords(node)),
     cell("lag lately", ...(node.lags.some((lag) => lag !== null) ? [sparkline(node.lags, isOfClock(node))] : [])), cell("operations", node.operations ?? ""), cell("least pinned", node.least_hold ?? ""),
-    cell("seen up for", secondsWords(node.up_for)));
+    cell("seen up for", secondsWords(node.up_for)), ...toldOf(node.stats).map((word, at) => cell(TOLD[at], word)));
   it.dataset.node = node.node;
   return it;
 }
 
-const COLUMNS = ["node", "state", "resolved time", "oldest readable", "lag", "lag lately", "operations", "least pinned", "seen up for"];
+const TOLD = ["memory", "connections", "version", "guarded", "up since"];
+const COLUMNS = ["node", "state", "resolved time", "oldest readable", "lag", "lag lately", "operations", "least pinned", "seen up for", ...TOLD];
 
 // The table of all nodes; columns that no node fills are left out.
 export function overview(nodes) {

@@ -2,6 +2,7 @@
 import { axisOf, picture, words } from "./draw.js";
 import { clockWords, isOfClock, otherLogs, overview, saidOf, spanWords } from "./overview.js";
 import { answerCard, changesCard, make, refusal } from "./rows.js";
+import { listTables } from "./tables.js";
 
 const $ = (id) => document.getElementById(id);
 const FIELDS = { get: ["table", "key"], range: ["table", "low", "high"], tag: ["table", "tag"], count: ["table"] };
@@ -120,6 +121,7 @@ function drawNodes() {
   $("logs").textContent = otherLogs(state.nodes);
   $("logs").hidden = $("logs").textContent === "";
   $("nodes").replaceChildren(...state.nodes.map((node) => nodeCard(node, axis)));
+  listTables($("held"), state.nodes, (table) => ({ at: state.at, view: state.view, name: state.names.tables[table] ?? String(table) }));
 }
 
 function heard(event) {

@@ -29,6 +29,7 @@ ASSETS = {
     "/draw.js": ("draw.js", "text/javascript; charset=utf-8"),
     "/overview.js": ("overview.js", "text/javascript; charset=utf-8"),
     "/rows.js": ("rows.js", "text/javascript; charset=utf-8"),
+    "/tables.js": ("tables.js", "text/javascript; charset=utf-8"),
     "/icon.svg": ("icon.svg", "image/svg+xml"),
     "/api/openapi.json": ("openapi.json", "application/json; charset=utf-8"),
 }

@@ -7,24 +7,29 @@ from __future__ import annotations
 import threading
 import time as clock
 from collections import deque
-from typing import Any, Callable, Deque, Dict, List, NamedTuple, Optional, Tuple, TypeVar
+from typing import Any, Callable, Deque, Dict, List, Optional, Tuple, TypeVar
 
 from ..address import Address, place_of
 from ..errors import LinkBroken, Refused, TimeLimit, VadungsilError
+from ..later_values import Streams
 from ..link import Certificates
 from ..node import Node
-from ..values import LAST_TIME, Fragment, Stream
+from ..stats import Stats
+from ..values import LAST_TIME, Fragment
 from .meters import Meters
+from .state import State, Tables, state_of
 
 Result = TypeVar("Result")
+Told = Tuple[Optional[Stats], Tables]
 
 # Seconds from a broken link to the next try; after each further time limit it is twice as long, up to the second
 # number.
 PAUSE, LONGEST_PAUSE = 1.0, 30.0
 
-# Of the numbers above a gap, and of the marks that wait, so many are told; the counts are of all.
-SHOWN = 32
-DAMAGED, BAD_VERSION = 41, 3
+DAMAGED, BAD_VERSION, BAD_KIND = 41, 3, 4
+
+# Seconds from one look at a node's tables to the next, where it did something between.
+TABLES_EVERY = 5.0
 
 # So many lags are kept, one a look.
 HISTORY = 120
@@ -38,91 +43,11 @@ class Busy(Away):
     """A node is asked other questions for longer than the limit."""
 
 
-class StreamState(NamedTuple):
-    """How far one stream is. `lag` is how far it is behind the greatest closed time of the streams that aren't
-    retired."""
-
-    number: int
-    prefix: int
-    closed: int
-    extra: int
-    waiting: int
-    first_extra: Tuple[int, ...]
-    first_waiting: Tuple[Tuple[int, int], ...]
-    lag: int
-    holds: bool
-
-    @property
-    def is_retired(self) -> bool:
-        return self.closed == LAST_TIME
-
-    @property
-    def lacks(self) -> str:
-        """What a stream that holds the node back lacks: entries where some came above a gap or marks wait, else
-        marks."""
-        return ("entries" if self.extra or self.waiting else "marks") if self.holds else ""
-
-
-class State(NamedTuple):
-    """What a node reported last. `damaged` is None until a node has replied; `operations`, their number, and the least
-    pinned time are None where that isn't asked, or no time is pinned."""
-
-    up: bool = False
-    error: str = "not asked yet"
-    refused: Optional[Refused] = None
-    damaged: Optional[bool] = None
-    log: Optional[int] = None
-    horizon: int = 0
-    readable: int = 0
-    streams: Tuple[StreamState, ...] = ()
-    operations: Optional[int] = None
-    least_hold: Optional[int] = None
-
-    @property
-    def newest(self) -> int:
-        """The greatest time up to which a stream is closed that isn't retired."""
-        return max((it.closed for it in self.streams if not it.is_retired), default=self.readable)
-
-    @property
-    def is_known(self) -> bool:
-        """Whether oldest readable time, resolved time and streams are those of now."""
-        return self.up and self.refused is None
-
-    @property
-    def holders(self) -> List[StreamState]:
-        """The streams holding the node back: closed only up to the resolved time, where another is closed further."""
-        return [stream for stream in self.streams if stream.holds]
-
-
-def stream_states(streams: Tuple[Stream, ...]) -> Tuple[StreamState, ...]:
-    """The streams of a fragment, with what each is behind."""
-    open_ones = [it.closed for it in streams if it.closed < LAST_TIME]
-    greatest, least = max(open_ones, default=LAST_TIME), min(it.closed for it in streams)
-    return tuple(
-        StreamState(
-            number,
-            it.prefix,
-            it.closed,
-            len(it.extra),
-            len(it.waiting),
-            it.extra[:SHOWN],
-            it.waiting[:SHOWN],
-            max(greatest - it.closed, 0),
-            it.closed == least < greatest,
-        )
-        for number, it in enumerate(streams, 1)
-    )
-
-
-def state_of(head: Fragment) -> State:
-    """The state that a delta without facts reports."""
-    return State(True, "", None, False, head.log, head.horizon, head.readable, stream_states(head.streams))
-
-
 class Watched:
     """A node that is asked how it stands every so many seconds, by a thread of its own, and questions between. Threads
-    may share it. With `messages` of 2 it is asked for its operations and its least pinned time too: where it reads
-    version 1 alone that costs a connection each time that it comes back."""
+    may share it. With `messages` of 2 it is asked for its operations, its least pinned time, its numbers and its tables
+    too: where it reads version 1 alone, or is of an earlier release, that costs a connection each time that it comes
+    back."""
 
     def __init__(
         self,
@@ -143,6 +68,7 @@ class Watched:
         self.peers: List[Watched] = [self]
         self.lags: Deque[Optional[int]] = deque(maxlen=HISTORY)
         self._messages = self._latest = messages
+        self._tells, self._tables, self._tables_at = True, None, (0, 0.0)  # type: bool, Tables, Tuple[int, float]
         self._changed = changed or (lambda: None)
         self._lock, self._stop = threading.Lock(), threading.Event()
         self._broken, self._again, self._pause = "", 0.0, PAUSE
@@ -243,13 +169,32 @@ class Watched:
         messages of version 2."""
         if self._latest == 2:
             try:
-                head, told = self.ask("delta", lambda node: (node.delta(LAST_TIME), node.status()))
-                return state_of(head)._replace(operations=told.operations, least_hold=told.least_hold)
+                head, told, (stats, tables) = self.ask("delta", self._poll)
+                return state_of(head)._replace(
+                    operations=told.operations, least_hold=told.least_hold, stats=stats, tables=tables
+                )
             except Refused as refused:
                 if refused.number != BAD_VERSION:
                     raise
                 self._latest = 1
         return state_of(self.ask("delta", lambda node: node.delta(LAST_TIME)))
+
+    def _poll(self, node: Node) -> Tuple[Fragment, Streams, Told]:
+        head, streams = node.delta(LAST_TIME), node.status()
+        try:
+            return head, streams, self._told(node, streams.operations) if self._tells else (None, None)
+        except Refused as refused:
+            if refused.number not in (BAD_VERSION, BAD_KIND):
+                raise
+            self._tells = False
+            return head, streams, (None, None)
+
+    def _told(self, node: Node, operations: int) -> Told:
+        """Its numbers, and its tables: these are asked anew where it has done something since, and not at each look."""
+        stats, at, (done, asked) = node.stats(), clock.monotonic(), self._tables_at
+        if self._tables is None or (operations != done and at >= asked + TABLES_EVERY):
+            self._tables, self._tables_at = tuple(node.tables()), (operations, at)
+        return stats, self._tables
 
     def look(self) -> State:
         """Asks the node how it stands, and keeps that and its lag."""
@@ -268,7 +213,7 @@ class Watched:
             state = State(False, f"{self.name}: {type(error).__name__}: {error}", None, before.damaged, before.log)
         self.state = state
         if not state.up:
-            self.up_at, self._latest = None, self._messages
+            self.up_at, self._latest, self._tells, self._tables = None, self._messages, True, None
         elif self.up_at is None:
             self.up_at = clock.monotonic()
         self.lags.append(self.lag)
