@@ -246,12 +246,22 @@ impl<'d, const LATEST: u8> Link<'d, LATEST> {
         }
     }
 
+    /// Whether something is to be done for it where all that stood is written: the system says nothing of a socket that took all.
+    fn has_more(&self) -> bool {
+        if self.ended.is_some() {
+            return !self.is_shut;
+        }
+        let is_held = self.is_full || self.has_waited || !self.rest.is_empty();
+        self.awaited.is_none() && (is_held || self.is_readable)
+    }
+
     /// Writes what stands after the turns of a round, and reserves room for what still does. Returns whether the connection has a turn
     /// in the next one.
     pub(crate) fn end_round(&mut self, now: u64) -> bool {
         self.write(now);
         self.reserve();
-        self.is_cut || !self.unwritten.is_empty() && self.unwritten.is_writable()
+        let is_stopped = !self.unwritten.is_empty() || self.has_more();
+        self.is_cut || self.unwritten.is_writable() && is_stopped
     }
 
     /// One after the other what can be done now, until the session ends.
