@@ -107,8 +107,8 @@ fn memory_of(text: &str) -> Option<u64> {
 
 impl<'a> Meters<'a> {
     /// Nothing is counted yet. `shared` is the budget of all doors, or of those that don't only read where `readers` have one of their
-    /// own; `process` the system's text on the process, /proc/self/status, where it has one; `started` is in seconds of the clock that
-    /// `note_time` is told of. It takes memory for a word for each kind and refusal, and three for each door.
+    /// own; `process` the system's text on the process, /proc/self/status, where it has one; `started` the time in seconds, by the clock
+    /// of those that `note_time` has. It takes memory for a word for each kind and refusal, and three for each door.
     pub fn new(
         alloc: Global,
         shared: &'a PartsBudget,
