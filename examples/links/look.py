@@ -36,7 +36,7 @@ def free_port():
 
 
 def node_on(port):
-    child = subprocess.Popen([PROGRAM, "serve", "--log", str(LOG), "--streams", str(STREAMS), "--port", str(port), "--links", "16"],
+    child = subprocess.Popen([PROGRAM, "node", "-q", "--log", str(LOG), "--streams", str(STREAMS), "--port", str(port), "--links", "16"],
                              stdout=subprocess.PIPE, text=True, start_new_session=True)
     if not child.stdout.readline().startswith("listening"):
         raise SystemExit("the node doesn't listen")
@@ -116,7 +116,7 @@ def main():
     child = node_on(port)
     try:
         try:
-            server = Server([port], host_and_port(words.http, 0))
+            server = Server([port], host_and_port(words.http, 0), messages=2)
         except OSError as error:
             raise SystemExit(f"can't listen on {words.http}: {error}; name another by --http") from error
         serve_beside(server)

@@ -1,4 +1,4 @@
-"""The numbers that a node tells of itself: docs/FORMATS.md, "Metrics"."""
+"""The numbers that a node reports of itself: docs/FORMATS.md, "Metrics"."""
 from __future__ import annotations
 
 from dataclasses import dataclass
@@ -43,10 +43,12 @@ class Metric(NamedTuple):
     value: int
 
     def line(self) -> str:
+        """As `hkrep status --stats` prints it."""
         word = NAMES.get(self.name)
         if word is None:
             return f"metric {self.name} {self.label} {self.value}"
-        return f"{word} {self.label} {self.value}" if self.name in LABELLED else f"{word} {self.value}"
+        has_label = self.name in LABELLED or self.label != 0
+        return f"{word} {self.label} {self.value}" if has_label else f"{word} {self.value}"
 
 
 @dataclass(frozen=True)
@@ -61,8 +63,8 @@ class AskTables:
 
 @dataclass(frozen=True)
 class Stats:
-    """What a node tells of itself. A number that it doesn't tell is None, a list of numbers that it doesn't tell is
-    empty; `other` has the metrics that are not known here."""
+    """The numbers that a node reports of itself. One that it doesn't report is None, or without labels; `other` has the
+    metrics that are not known here."""
 
     metrics: Tuple[Metric, ...]
 

@@ -96,8 +96,8 @@ PagedAt (Some old) (Some new) asked told before after number =
     ⊎ (IsNoPageBy (asked old.host.content) number × WritesNone old new told before after)
 
 -- a page of the rows of a table between two keys was written
-abbrev pub RangePaged : Option ReplicaValue → Option ReplicaValue → ℕ → ℕ → ℕ → ℕ → ℕ → Paged → List ℕ → List ℕ → ℕ → Type 0
-RangePaged old new time table low high most told before after number =
+abbrev pub Pages : Option ReplicaValue → Option ReplicaValue → ℕ → ℕ → ℕ → ℕ → ℕ → Paged → List ℕ → List ℕ → ℕ → Type 0
+Pages old new time table low high most told before after number =
     PagedAt old new (λ c. ranged_page c time table low high most) told before after number
 
 -- a page of the rows of a table with a tag was written

@@ -32,7 +32,7 @@ pub struct Paged {
 }
 
 impl Paged {
-    /// What is told where there is no page.
+    /// That of no page.
     pub(crate) fn nothing() -> Paged
         ensures { TellsNothing result }
     {

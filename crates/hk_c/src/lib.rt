@@ -4,7 +4,7 @@
 ghost use Rattle.std.specs.Prelude.{◌≡◌, ◌++◌, true, None, Some, length, min, take, drop};
 ghost use Rattle.std.specs.Option.{option_copied};
 ghost use Rattle.hk_c.specs.Calls.{AbsorbedAt, AtLive, Bounded, Called, Counts, Finished, Got, Listed, MergedAt, Opened, PrunedAt, Ranged, Tagged, Told, Worded, Wrote, asks_rows, copied_into, kept_reply};
-ghost use Rattle.hk_c.specs.Pages.{RangePaged, TagPaged, WritesFound};
+ghost use Rattle.hk_c.specs.Pages.{Pages, TagPaged, WritesFound};
 
 mod changes;
 mod found;
@@ -332,7 +332,7 @@ pub extern "C" fn hk_by_tag(
     list(alloc, handle, time, &query, Key::new(low), out, needed)
 }
 
-/// Keeps the rows of a page that was found, writes as much of them as there is room, and tells what there is of it.
+/// Keeps the rows of a page that was found, writes as much of them as there is room, and reports what there is of it.
 /// 0, or the number of the refusal.
 fn write_page(
     alloc: Global,
@@ -359,7 +359,7 @@ fn write_page(
 }
 
 /// The first rows of a table from a low key to a high one, both inside, at a time: at most `most` of them, and no more
-/// than 268,435,449 bytes. They are written as those of `hk_range`, and `page` tells whether others follow, how many
+/// than 268,435,449 bytes. They are written as those of `hk_range`, and `page` has whether others follow, how many
 /// rows there are, the key of the last, and how many bytes they have: the page after it has `low` above that key.
 /// Returns 0, or the number of the refusal (25, 26, 6, 90), or 255 at a closed handle, and then `page` is all zeros.
 /// Cost: O(log n + k · log n + b), n facts, k keys up to the first row that is left out, b bytes of the page.
@@ -375,7 +375,7 @@ pub extern "C" fn hk_range_page(
     out: &mut [u8],
     page: &mut Paged,
 ) -> u8
-    ensures { RangePaged handle.old.replica handle.new.replica time table low high most
+    ensures { Pages handle.old.replica handle.new.replica time table low high most
         page.new out.old out.new result }
 {
     match replace(handle, Handle::none()).into_box(alloc) {
@@ -393,8 +393,8 @@ pub extern "C" fn hk_range_page(
     }
 }
 
-/// The first rows of a table with a tag, from a key on, at a time: at most `most` of them, written and told as those of
-/// `hk_range_page`, whose numbers it returns. Cost and memory: those of `hk_by_tag`, whatever `most` is.
+/// The first rows of a table with a tag, from a key on, at a time: at most `most` of them, written and reported as those
+/// of `hk_range_page`, whose numbers it returns. Cost and memory: those of `hk_by_tag`, whatever `most` is.
 #[unsafe(no_mangle)]
 pub extern "C" fn hk_by_tag_page(
     alloc: Global,

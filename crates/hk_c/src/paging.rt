@@ -75,7 +75,7 @@ impl Replica {
         Ok(first_of(rows, most))
     }
 
-    /// Keeps the text of the rows of a page, and tells what there is of it.
+    /// Keeps the text of the rows of a page, and reports what there is of it.
     pub(crate) fn keep_page(&mut self, alloc: Global, page: &Page) -> Result<Paged, AllocError>
         ensures kept { IfOk result (λ _. KeepsPage self.old self.new (page_seen page.now)) }
         ensures told { IfOk result (λ told. TellsPage told (page_seen page.now)) }

@@ -67,7 +67,7 @@ TABLES_SHOWN = 256
 
 
 def json_of_stats(stats: Stats) -> Json:
-    """What a node tells of itself; None is what it doesn't tell. Connections, and the most at
+    """What a node reports of itself; None is what it doesn't report. Connections, and the most at
     once, are summed over its ports."""
     return {
         "memory": text_of(stats.memory),

@@ -195,7 +195,7 @@ def _of_streams(nodes: List[Watched]) -> Families:
 
 
 def _told(nodes: List[Watched]) -> Families:
-    """What nodes tell of themselves: nothing of a node that doesn't."""
+    """What nodes report of themselves: nothing of a node that doesn't."""
     known = [(it.name, it.state.stats) for it in nodes if it.state.stats is not None]
     for family, read in TOLD:
         pairs = [(name, read(stats)) for name, stats in known]
