@@ -5,4 +5,3 @@ pub mod Seen
 pub mod BothSeen
 mod SharedHosts
 mod Marks
-mod Cuts

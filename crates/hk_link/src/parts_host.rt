@@ -208,9 +208,7 @@ impl<'a, H: NodeSide + Drop> PartsHost<'a, H> {
         ensures told { TellsLatest self.old.most (content_of H.side self.new) query.now (reply_seen result) }
         ensures ready { H.ready self.old.inner → H.ready self.new.inner }
     {
-        if is_long(query) {
-            self.keep_within();
-        }
+        self.keep_within();
         match self.inner.latest(query) {
             Ok((t, answer)) => LaterReply::Latest { t, answer },
             Err(Refusal::Memory) => self.refuse_latest(query),
