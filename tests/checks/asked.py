@@ -22,7 +22,9 @@ import messages as say
 from checks import differ, ended, is_built, report
 from client import Node, free_port, guarded
 from messages import NEW_E1
+from packaged import va
 from staying import Staying
+from telling import METRICS, TABLES, Telling
 
 ROOT = pathlib.Path(__file__).resolve().parents[2]
 PROGRAM = ROOT / "bin" / "hkrep"
@@ -568,6 +570,38 @@ def waited_fronts():
     report("a front that is waited for", differ(pairs))
 
 
+def told_numbers():
+    """`status --stats` and `--tables` print a node's numbers and tables behind what `status` prints, in lines and in JSON; a node that tells none is told of."""
+    with Staying(5, "--messages", "2") as node, Node(4) as plain, Telling(node.port) as telling, Telling(node.port, None) as old, Telling(node.port, (), ()) as empty:
+        with node.link() as link:
+            link.ask(say.items(say.E1))
+        status, in_json = (run("status", "--port", node.port, *words)[0] for words in ((), ("--json",)))
+        asked = lambda port, *words: run("status", "--port", port, *words)
+        lines = "".join(f"{it}\n" for it in (
+            "stats 29", "rows 40", "ends 12", "body_bytes 900", "operations 61", "guarded 1", "failed 0", "pins 1", "seconds 7260", "budget 0 1000000", "budget 1 500000", "reserved 0 900000",
+            "reserved 1 0", "memory 47185920", "open 0 3", "open 1 2", "opened 0 70", "opened 1 2", "most_open 0 9", "most_open 1 2", "bytes_read 4096", "bytes_written 65536",
+            "requests 20 12", "requests 60 3", "refusals 26 8", "refusals 90 1", "failed_accepts 0", "program 1002003", "keys 7", "metric 60000 5 1")).encode()
+        tables = b"tables 3\ntable 1\ntable 2\ntable 65535\n"
+        stats = va.later.Stats(METRICS)
+        pairs = [("as before", (asked(telling.port), asked(telling.port, "--json")), ((status, 0, ""), (in_json, 0, ""))), ("numbers", asked(telling.port, "--stats"), (status + lines, 0, "")),
+                 ("tables", asked(telling.port, "--tables"), (status + tables, 0, "")), ("both", asked(telling.port, "--tables", "--stats"), (status + lines + tables, 0, "")),
+                 ("the Python client's lines", stats.line() + "\n" + va.later.Tables(TABLES).line() + "\n", (lines + tables).decode()),
+                 ("none", asked(empty.port, "--stats", "--tables"), (status + b"stats 0\ntables 0\n", 0, "")), ("none in JSON", asked(empty.port, "--stats", "--tables", "--json"), (in_json, 0, ""))]
+        words = dict(zip(METRICS, (line.split()[0] for line in lines.decode().splitlines()[1:])))
+        made = "".join(line_of({"metric": "unknown" if words[it] == "metric" else words[it], "name": it[0], "label": it[1], "value": str(it[2])}) for it in METRICS)
+        made += "".join(line_of({"table": table}) for table in TABLES)
+        pairs += [("in JSON", asked(telling.port, "--json", "--stats", "--tables"), (in_json + made.encode(), 0, ""))]
+        for port, number, said in ((old.port, 4, "of an earlier release"), (plain.port, 3, "--stats and --tables need version 2")):
+            before = asked(port)[0]
+            for option in ("--stats", "--tables"):
+                out, ended_with, told = asked(port, option)
+                pairs += [(f"{option}, {said}", (out, ended_with, said in told, f"request 3: refused {number}: " in told), (before + f"refused {number}\n".encode(), 1, True, True))]
+    for option in ("--stats", "--tables"):
+        out, ended_with, told = run("status", "--log", 7, "--streams", 1, option, data=FIRST)
+        pairs.append((f"{option} of frames", (out, ended_with, option in told), (b"", 2, True)))
+    report("a node's numbers and tables", differ(pairs))
+
+
 def waited_answers():
     """`ask --at TIME --wait` answers once its time can be read, whichever of them stands before the query, by several requests where that is late; who can't wait is told why."""
     query = ["get", 1, 5]
@@ -598,7 +632,7 @@ def main():
         return ended()
     start = time.monotonic()
     for check in (there_and_back, bad_lines, json_answers, over_a_link, shell, shown_bodies, one_grammar, connected_later, silent_nodes, told_apart, addressed, named_around,
-                  no_nodes, other_logs, misplaced, terminals, words_that_mislead, how_many_were_new, waited_fronts, waited_answers):
+                  no_nodes, other_logs, misplaced, terminals, words_that_mislead, how_many_were_new, waited_fronts, waited_answers, told_numbers):
         if not sys.argv[1:] or check.__name__ in sys.argv[1:]:
             guarded(check)
     print(f"asked: {time.monotonic() - start:.1f} s")

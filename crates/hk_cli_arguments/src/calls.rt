@@ -208,7 +208,12 @@ fn front_call<'a>(matches: &ArgMatches<'a>, named: Option<&'a str>) -> Option<Ca
 fn status_call<'a>(matches: &ArgMatches<'a>, named: Option<&'a str>) -> Option<Call<'a>> {
     let form = form_of(matches);
     let alone = config_of(matches).map(|config| Alone::Status { config, form });
-    either(matches, named, Order::Status { form }, alone)
+    let order = Order::Status {
+        stats: has_flag(matches, "stats"),
+        tables: has_flag(matches, "tables"),
+        form,
+    };
+    either(matches, named, order, alone)
 }
 
 fn batch_of(matches: &ArgMatches<'_>) -> u64 {

@@ -331,7 +331,8 @@ pub(crate) fn words_of(form: CommandForm) -> &'static [Word] {
     match form {
         CommandForm::At | CommandForm::Items => &[Word::Json],
         CommandForm::Ask => &[Word::Address, Word::Json, Word::Wait],
-        CommandForm::Front | CommandForm::Status => &[Word::Address, Word::Json],
+        CommandForm::Front => &[Word::Address, Word::Json],
+        CommandForm::Status => &[Word::Address, Word::Json, Word::Stats, Word::Tables],
         CommandForm::Save => &[Word::Address, Word::Json, Word::Out],
         CommandForm::Pull => &[Word::Address, Word::From],
         CommandForm::Shell => &[Word::Address, Word::Text, Word::Hex],

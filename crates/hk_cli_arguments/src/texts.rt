@@ -53,8 +53,8 @@ prints
   front horizon 0 readable 0
 Of each stream: the number up to which all entries are there, how many are there above it, the time \
 up to which marks close it, how many marks wait for entries, and whether it holds the resolved time \
-back while another is closed further ('holds'), doesn't ('open') or is retired ('retired'). Of a node that runs:
-  hkrep status --port 7426";
+back while another is closed further ('holds'), doesn't ('open') or is retired ('retired'). Of a node that runs, with its numbers and its tables:
+  hkrep status --port 7426 --stats --tables";
 
 pub(crate) const EXPLAIN_ABOUT: &str = "Print what the numbers of refusals mean, and what to do";
 

@@ -14,6 +14,8 @@ pub(crate) enum Word {
     Text,
     Hex,
     Wait,
+    Stats,
+    Tables,
     Stay,
     Guard,
     StayQuiet,
@@ -62,6 +64,8 @@ fn name_of(word: Word) -> &'static str {
         Word::Text => "text",
         Word::Hex => "hex",
         Word::Wait => "wait",
+        Word::Stats => "stats",
+        Word::Tables => "tables",
         other => name_of_serving(other),
     }
 }
@@ -142,6 +146,13 @@ where neither is given HKREP_NODE of the environment, else 127.0.0.1:7420"
         Word::Wait => {
             "Wait until the time can be read that is given; the node has to answer messages of version 2"
         }
+        Word::Stats => {
+            "Also print the node's numbers, of what it holds, its memory, its connections, its requests: 'WORD VALUE' or \
+'WORD LABEL VALUE' for each. The node has to answer messages of version 2"
+        }
+        Word::Tables => {
+            "Also print 'table N' for each table that it holds anything of. The node has to answer messages of version 2"
+        }
         other => help_of_serving(other),
     }
 }
@@ -175,6 +186,7 @@ fn need_of(word: Word) -> Need {
         Word::From => Need::always(),
         Word::Address => Need::without(&["port"]),
         Word::Text => Need::without(&["hex"]),
+        Word::Stats | Word::Tables => Need::without(&["log"]),
         Word::Verbose => Need::without(&["quiet"]),
         Word::StayVerbose => Need::with(&["stay"]).and_without(&["quiet"]),
         Word::StayQuiet | Word::StayListening => Need::with(&["stay"]),

@@ -49,8 +49,10 @@ pub enum Order {
         wait: Option<Time>,
         form: OutputForm,
     },
-    /// To return how far each stream is.
+    /// To return how far each stream is; where they are wanted, the node's numbers and the tables that it holds anything of.
     Status {
+        stats: bool,
+        tables: bool,
         form: OutputForm,
     },
     /// To return a full snapshot: in bytes, the frame of a request that gives it to a node, or those of its chunks where one
@@ -80,7 +82,7 @@ impl Order {
     pub fn form(&self) -> OutputForm {
         match self {
             Order::Ask { form, .. } | Order::Front { form, .. } => *form,
-            Order::Status { form } | Order::Save { form } => *form,
+            Order::Status { form, .. } | Order::Save { form } => *form,
             Order::Push { .. } | Order::Shell { .. } | Order::Load => OutputForm::Lines,
             Order::Pull | Order::Prune { .. } | Order::Feed { .. } => OutputForm::Lines,
         }

@@ -5,3 +5,4 @@ pub mod Items
 pub mod Reading
 pub mod Refusals
 pub mod Statuses
+pub mod Metrics

@@ -10,6 +10,7 @@ mod fragment;
 mod item;
 mod item_line;
 mod line;
+mod metric;
 mod object;
 mod reading;
 mod refusal;
@@ -18,5 +19,6 @@ mod status;
 
 pub use fragment::FragmentSummary;
 pub use line::{InJson, json_of};
+pub use metric::{MetricLine, TableLine};
 pub use reading::{BadItem, item_of};
 pub use status::StreamLine;

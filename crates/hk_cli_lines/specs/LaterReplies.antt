@@ -8,7 +8,8 @@ use Rattle.hk_model.specs.Replica.StreamsTold.{StreamsValue}
 use Rattle.hk_model.specs.declared.streams_told.StreamTold.{StreamTold}
 use Rattle.hk_values.specs.Parts.{WireHead}
 use Rattle.hk_wire.specs.LaterReplies.{ReplyValue}
-use Rattle.hk_wire.specs.LaterReplies.ReplyValue.{Done, Streams, Latest, Page, Part, LastPart, Added, Held, Refused, Fed, Ready}
+use Rattle.hk_wire.specs.LaterReplies.ReplyValue.{Done, Streams, Latest, Page, Part, LastPart, Added, Held, Refused, Fed, Ready, Stats, Tables}
+use Rattle.hk_cli_lines.specs.Metrics.{stats_lines, tables_lines}
 use Rattle.hk_cli_lines.specs.Lines.{line_end, field, keyed_line, answer_lines, refusal_line}
 
 -- ---- streams
@@ -101,3 +102,5 @@ reply_lines (Held hold t) = held_line hold t
 reply_lines (Refused why) = refusal_line why
 reply_lines (Fed ops new) = fed_line ops new
 reply_lines (Ready horizon readable) = ready_line horizon readable
+reply_lines (Stats metrics) = stats_lines metrics
+reply_lines (Tables tables) = tables_lines tables

@@ -1,3 +1,4 @@
+pub mod Metrics
 pub mod LaterReplies
 pub mod Lines
 pub mod Replies

@@ -8,6 +8,7 @@ ghost use Rattle.hk_wire.specs.LaterReplies.{reply_seen};
 ghost use Rattle.hk_cli_lines.specs.LaterReplies as spec;
 
 use crate::line::{Printed, put_rows};
+use crate::metric::{put_stats, put_tables};
 use hk_model::{Page, StreamTold, StreamsTold};
 use hk_types::Time;
 use hk_wire::LaterReply;
@@ -159,6 +160,8 @@ impl Printed for LaterReply {
             LaterReply::Held { number, t } => put_held(*number, *t, out),
             LaterReply::Fed { ops, new } => put_fed(*ops, *new, out),
             LaterReply::Ready { horizon, readable } => put_ready(*horizon, *readable, out),
+            LaterReply::Stats(metrics) => put_stats(metrics, out),
+            LaterReply::Tables(tables) => put_tables(tables, out),
             LaterReply::Refused(refusal) => refusal.print_to(alloc, out),
         }
     }

@@ -3,6 +3,8 @@
 
 mod later_reply;
 mod line;
+mod metric;
 mod reply;
 
 pub use line::{Printed, line_of};
+pub use metric::metric_word;

@@ -5,6 +5,7 @@
 mod change;
 mod feed;
 mod link;
+mod numbers;
 mod order;
 mod parts;
 mod progress;

@@ -5,11 +5,12 @@ ghost use Rattle.std.specs.Prelude.{◌≤◌};
 use crate::change::{prune, pull};
 use crate::feed::feed;
 use crate::link::Link;
+use crate::numbers::{tell_stats, tell_tables};
 use crate::push::{Accepted, push_all};
 use crate::read::{save, tell_answer, tell_front, tell_status};
 use crate::shell::answer_lines;
 use crate::stream::opened;
-use hk_cli_calls::{NodeCall, Order};
+use hk_cli_calls::{NodeCall, Order, OutputForm};
 use hk_cli_commands::{Output, Stop};
 use std::alloc::Global;
 use std::io::{Read, Stderr, Write};
@@ -23,6 +24,24 @@ pub struct Terminal {
     pub is_input: bool,
     /// The standard error on it, where that is on one.
     pub errors: Option<Stderr>,
+}
+
+/// Prints how far each stream of the node is, and then its numbers and its tables, where they are wanted.
+fn tell_all<W: Write, E: Write>(
+    link: &mut Link<'_>,
+    stats: bool,
+    tables: bool,
+    form: OutputForm,
+    output: &mut Output<'_, W, E>,
+) -> Result<(), Stop> {
+    tell_status(link, output)?;
+    if stats {
+        tell_stats(link, form, output)?;
+    }
+    if tables {
+        tell_tables(link, form, output)?;
+    }
+    Ok(())
 }
 
 /// Has a node do what is asked, and returns whether a reply was a refusal after which the command went on.
@@ -55,7 +74,11 @@ where
             ..
         } => tell_answer(link, *time, *waits, *query, output),
         Order::Front { wait, .. } => tell_front(link, *wait, output),
-        Order::Status { .. } => tell_status(link, output),
+        Order::Status {
+            stats,
+            tables,
+            form,
+        } => tell_all(link, *stats, *tables, *form, output),
         Order::Save { form } => save(link, *form, output),
         Order::Pull => pull(rt, link, call, terminal, output),
         Order::Prune { horizon } => prune(link, *horizon, output),
@@ -106,7 +129,8 @@ fn written<W: Write, E: Write>(
 /// terminal each megabyte of a reply is counted there, in a line that is overwritten.
 /// `Front` with a time, and `Ask` where it waits, wait until that can be read, by requests of version 2, each of which the node may let wait
 /// for up to ten seconds.
-/// `Status` reads a delta since the resolved time, and is refused as too old where the node is pruned between. `Save` and `Pull` send
+/// `Status` reads a delta since the resolved time, and is refused as too old where the node is pruned between; for the node's numbers and
+/// tables it asks by requests of version 2, and where a node doesn't know these (3, 4) `errors` says so, behind what was printed. `Save` and `Pull` send
 /// chunks of up to 8,388,608 bytes, or of one fact, where a node refuses a single message as too long and both nodes read version 2; else
 /// they end with 2, as it was refused. Of what goes in chunks nothing is joined before all is there. `Pull`, `Prune` and `Feed` print
 /// `done` and the number of the node's last operation; `Feed` ends at the first batch that is refused, and prints to `errors` how many

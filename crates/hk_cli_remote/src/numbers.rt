@@ -1,0 +1,117 @@
+//! A node's numbers, and the tables that it holds anything of.
+
+use crate::link::{Link, unasked};
+use hk_cli_calls::OutputForm;
+use hk_cli_commands::{Output, Stop};
+use hk_cli_json::{MetricLine, TableLine};
+use hk_cli_lines::metric_word;
+use hk_types::{FormFault, Refusal, Table};
+use hk_values::Metric;
+use hk_wire::{LaterReply, LaterRequest};
+use std::io::Write;
+
+/// The line where a node reads no request of version 2.
+const ONE_VERSION: &str =
+    "the node answers messages of version 1 alone, and --stats and --tables need version 2: start it by 'hkrep node', or with --messages 2\n";
+
+/// The line where it doesn't know the request, or its port doesn't take it.
+const NOT_KNOWN: &str =
+    "the node is of an earlier release and knows neither --stats nor --tables, or this port doesn't take them\n";
+
+/// What is said, in words, of a node that doesn't know what it was asked.
+fn words_of(stop: &Stop) -> &'static str {
+    match stop {
+        Stop::RefusedAt(Refusal::Form(FormFault::BadVersion), _origin) => ONE_VERSION,
+        Stop::RefusedAt(Refusal::Form(FormFault::BadKind), _origin) => NOT_KNOWN,
+        _other => "",
+    }
+}
+
+/// What the node replies; where it doesn't know the request that is said in words too.
+fn told_of<W: Write, E: Write>(
+    link: &mut Link<'_>,
+    request: LaterRequest,
+    output: &mut Output<'_, W, E>,
+) -> Result<LaterReply, Stop> {
+    match link.granted_later(request) {
+        Ok(reply) => Ok(reply),
+        Err(stop) => {
+            output.note(words_of(&stop));
+            Err(stop)
+        }
+    }
+}
+
+/// What a metric's name is called in JSON.
+fn word_of(name: u16) -> &'static str {
+    let word = metric_word(name);
+    if word.is_empty() { "unknown" } else { word }
+}
+
+/// Prints metrics in JSON.
+fn print_metrics<W: Write, E: Write>(
+    metrics: &[Metric],
+    output: &mut Output<'_, W, E>,
+) -> Result<(), Stop> {
+    for metric in metrics {
+        output.print_json(&MetricLine {
+            word: word_of(metric.name),
+            name: metric.name,
+            label: metric.label,
+            value: metric.value,
+        })?;
+    }
+    Ok(())
+}
+
+/// Prints tables in JSON.
+fn print_tables<W: Write, E: Write>(
+    tables: &[Table],
+    output: &mut Output<'_, W, E>,
+) -> Result<(), Stop> {
+    for table in tables {
+        output.print_json(&TableLine {
+            table: table.number(),
+        })?;
+    }
+    Ok(())
+}
+
+/// Prints the numbers or the tables of a reply, in a form.
+fn print_told<W: Write, E: Write>(
+    told: &LaterReply,
+    form: OutputForm,
+    output: &mut Output<'_, W, E>,
+) -> Result<(), Stop> {
+    match (form, told) {
+        (OutputForm::Json, LaterReply::Stats(metrics)) => print_metrics(metrics, output),
+        (OutputForm::Json, LaterReply::Tables(tables)) => print_tables(tables, output),
+        _lines => output.print(told),
+    }
+}
+
+/// Prints the node's numbers.
+pub(crate) fn tell_stats<W: Write, E: Write>(
+    link: &mut Link<'_>,
+    form: OutputForm,
+    output: &mut Output<'_, W, E>,
+) -> Result<(), Stop> {
+    let told = told_of(link, LaterRequest::Stats, output)?;
+    if !matches!(told, LaterReply::Stats(_)) {
+        return Err(unasked());
+    }
+    print_told(&told, form, output)
+}
+
+/// Prints the tables that the node holds anything of.
+pub(crate) fn tell_tables<W: Write, E: Write>(
+    link: &mut Link<'_>,
+    form: OutputForm,
+    output: &mut Output<'_, W, E>,
+) -> Result<(), Stop> {
+    let told = told_of(link, LaterRequest::Tables, output)?;
+    if !matches!(told, LaterReply::Tables(_)) {
+        return Err(unasked());
+    }
+    print_told(&told, form, output)
+}
