@@ -655,7 +655,7 @@ def wheel():
         example = "import vadungsil; node = vadungsil.Node(%d); log = vadungsil.LogWriter(7, 1); node.items([log.commit([(1, 5, 9, b'A')]), *log.marks()]); " \
                   "print(vadungsil.__file__, node.get(1, 5).body)" % served.port
         page = run([sys.executable, "-c", "from vadungsil.web import Server; print(len(Server([1], ('127.0.0.1', 0)).assets))"], cwd=folder, env={"PYTHONPATH": str(path / "site")})
-        problems += differ([("the files of the page", page.stdout.decode(), "8\n")])
+        problems += differ([("the files of the page", page.stdout.decode(), "9\n")])
         for name in ("site", "from_source"):
             got = run([sys.executable, "-c", example if name == "site" else "import vadungsil; print(vadungsil.__file__, b'A')"], cwd=folder, env={"PYTHONPATH": str(path / name)})
             problems += differ([(name, got.stdout.decode(), f"{path / name / 'vadungsil' / '__init__.py'} b'A'\n")])
