@@ -165,7 +165,7 @@ def halves():
             with its.link() as link, its.link() as other, reader() as first, reader() as second, reader() as third:
                 pairs = [("items", link.ask(LARGE), ("done", 2)), ("a reader's snapshot", first.ask(whole)[0], "part"), ("one more", second.ask(whole)[:2], told), ("a feeder's frame", link.ask(LARGE), ("done", 3))]
                 third.send(UNREAD)
-                pairs += [("a reader's unread replies", any("ended 90: " in it for it in words_once(its, "ended 90")), True), ("a feeder's frame then", link.ask(LARGE), ("done", 4)), ("the snapshot goes on", first.ask(say.more())[0], "part"),
+                pairs += [("a reader's long replies", {third.reply() for _ in range(20)}, {("refused", 90, 0, 0)}), ("a feeder's frame then", link.ask(LARGE), ("done", 4)), ("the snapshot goes on", first.ask(say.more())[0], "part"),
                           ("another's snapshot", link.ask(whole)[0], "part"), ("one more of others", other.ask(whole)[:2], told), ("a reader's next one", first.ask(whole)[0], "part")]
             report(f"halves of what links make a node keep, with {name} for readers", differ(pairs))
         with shared.link() as link, shared.link() as second, shared.link() as third:

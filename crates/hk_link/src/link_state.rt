@@ -245,6 +245,15 @@ impl<'a> LinkState<'a> {
         self.buffers.left().saturating_add(self.buffers.count())
     }
 
+    /// The same for a fragment that comes in place of the one that is sent.
+    pub(crate) fn left_for_another(&self) -> u64 {
+        let reserved = match &self.giving {
+            Some(giving) => giving.reserved(),
+            None => 0,
+        };
+        self.left().saturating_add(reserved)
+    }
+
     /// The number of the pin that the connection made last of those that it has. Cost: O(1).
     pub(crate) fn last_pin(&self) -> Option<u64> {
         let hold = self.holds.last()?;

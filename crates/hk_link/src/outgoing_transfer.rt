@@ -68,6 +68,11 @@ impl<'a> OutgoingTransfer<'a> {
         })
     }
 
+    /// How many bytes are reserved for it.
+    pub(crate) fn reserved(&self) -> u64 {
+        self.room.count()
+    }
+
     /// The reply with the next chunk: its facts are copied, and with the last chunk the head.
     pub(crate) fn told(&self, alloc: Global) -> Result<LaterReply, Refusal>
         ensures ok { IfOk result (λ reply. reply_seen reply ≡ part_told self.now) }

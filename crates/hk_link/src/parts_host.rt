@@ -128,12 +128,11 @@ impl<'a, H: NodeSide + Drop> PartsHost<'a, H> {
         self.kept.last_pin()
     }
 
-    /// Has answers and cuts keep within what the budget has left for this connection.
-    fn keep_within(&mut self)
+    /// Has answers and cuts keep within so many bytes.
+    fn keep_within(&mut self, room: u64)
         ensures { self.new ≡ self.old }
     {
-        let left = self.kept.left();
-        self.inner.keep_within(left);
+        self.inner.keep_within(room);
     }
 
     fn streams(&mut self) -> LaterReply
@@ -208,7 +207,8 @@ impl<'a, H: NodeSide + Drop> PartsHost<'a, H> {
         ensures told { TellsLatest self.old.most (content_of H.side self.new) query.now (reply_seen result) }
         ensures ready { H.ready self.old.inner → H.ready self.new.inner }
     {
-        self.keep_within();
+        let left = self.kept.left();
+        self.keep_within(left);
         match self.inner.latest(query) {
             Ok((t, answer)) => LaterReply::Latest { t, answer },
             Err(Refusal::Memory) => self.refuse_latest(query),
@@ -253,7 +253,8 @@ impl<'a, H: NodeSide + Drop> PartsHost<'a, H> {
         ensures same { KeepsCameAndHolds self.old self.new }
         ensures ready { H.ready self.old.inner → H.ready self.new.inner }
     {
-        self.keep_within();
+        let left = self.kept.left_for_another();
+        self.keep_within(left);
         match self.inner.cut(base) {
             Ok(fragment) => self.kept.begin(fragment, most),
             Err(Refusal::Memory) => {
@@ -400,7 +401,8 @@ impl<'a, H: NodeSide + Drop> PartsHost<'a, H> {
     {
         H::laws();
         if may_be_long(&request) {
-            self.keep_within();
+            let left = self.kept.left();
+            self.keep_within(left);
         }
         self.inner.answer(request)
     }

@@ -23,7 +23,7 @@ ghost use Rattle.hk_oplog.specs.NewItems.{count_new};
 ghost use Rattle.hk_oplog.specs.Replies.{Answers, GivesOrMemory, GivesSeen, timed_seen, node_delta, node_front, node_latest, node_page, node_reply, node_streams, node_whole};
 
 use crate::op::{Hold, NodeKind, Op};
-use crate::sizes::NodeSizes;
+use crate::sizes::{NodeSizes, weight_of};
 use hk_delta::{Fragment, agreed_so, conflicts_with, delta_since, join, whole_of};
 use hk_log::Item;
 use hk_merge::{Sent, join_touches_past, wrong_log};
@@ -578,13 +578,12 @@ impl Body {
         ensures guarded { result.guarded ≡ self.now.guarded }
         ensures damaged { result.damaged ≡ self.now.damaged }
     {
-        let facts = self.state.facts();
-        let tally = facts.tally();
+        let tally = self.state.facts().tally();
         NodeSizes {
             rows: tally.rows,
             ends: tally.ends,
             bytes: tally.bytes,
-            weight: facts.bytes_of_all(),
+            weight: weight_of(&tally),
             operations: self.op_count,
             pins: self.holds.len() as u64,
             guarded: self.guarded,
@@ -600,14 +599,14 @@ impl Body {
         self.state.facts().tables(alloc)
     }
 
-    /// Whether its full snapshot, or what it holds since a time above 0, takes more bytes than so many, at most counted.
-    /// Where it would be refused for another reason it says no. Cost: O(1) for the full snapshot, and where all that is held has no
+    /// Whether its full snapshot, or what it holds since a time above 0, takes more bytes than so many, by a count that is never too high,
+    /// and of a delta at least half. Where it would be refused for another reason it says no. Cost: O(1) for the full snapshot, and where all that is held has no
     /// more bytes; else O((1 + k) · log n), k versions with a row or an end above the time, n facts.
     pub fn is_cut_above(&self, alloc: Global, base: Time, room: u64) -> bool
         ensures whole { result ≡ true → IsOk (node_whole self.now) }
         ensures delta { result ≡ true → (base ≡ 0) ⊎ IsOk (node_delta self.now base) }
     {
-        let all = self.state.facts().bytes_of_all();
+        let all = weight_of(&self.state.facts().tally());
         if self.damaged || all <= room {
             return false;
         }
@@ -618,7 +617,8 @@ impl Body {
             return false;
         }
         match self.state.facts().bytes_above(alloc, base) {
-            Ok(bytes) => bytes > room,
+            // A version with a row and an end counts twice there.
+            Ok(bytes) => bytes / 2 > room,
             Err(_no_memory) => true,
         }
     }
