@@ -6,6 +6,6 @@ use Rattle.hk_link.proofs.parts_host.PartsHost.whole.Goals as goal
 
 pub returns-in-Err-Memory-clause-seen : goal.returns-in-Err-Memory-clause-seen
 returns-in-Err-Memory-clause-seen g c =
-    let same = ap (λ (l : LinkValue _). g.H.NodeSide.side.list l.inner) (c.self.view_is ∙ c.keep_within.ensures) in
+    let same = ap (λ (l : LinkValue _). g.H.NodeSide.side.list l.inner) (c.self-2.view_is ∙ c.keep_within.ensures) in
     then_prefix (g.H.NodeSide.side.list c.args.self.now.inner) (g.H.NodeSide.side.list c.cut.new.self) (g.H.NodeSide.side.list c.refuse_cut.new.self.inner)
     (subst (λ old. IsPrefix old (g.H.NodeSide.side.list c.cut.new.self)) same c.cut.ensures.seen) c.refuse_cut.ensures.seen
