@@ -212,9 +212,10 @@ impl<
             Way::Open(_) => self.worker.left.pop(),
             Way::Feeding(_) | Way::Reading => None,
         };
-        left.unwrap_or_else(|| {
-            LinkState::new(self.worker.alloc, door.budget, Some(self.shop.meters))
-        })
+        match left {
+            Some(kept) => kept,
+            None => LinkState::new(self.worker.alloc, door.budget, Some(self.shop.meters)),
+        }
     }
 
     /// Takes in a connection that was accepted. Where that fails it is closed.
