@@ -1,4 +1,4 @@
-//! What a node says of how much it holds, beside a count of its full snapshot; its tables; and answers that have no room.
+//! What a node says of how much it holds, beside a count of its full snapshot, and answers that have no room.
 
 ghost use Rattle.std.specs.Prelude.{◌≡◌};
 
@@ -29,21 +29,21 @@ fn agrees<J: NodeName>(seat: &mut ReaderSeat<J>) -> Result<bool, Refusal> {
     Ok((sizes.rows, sizes.ends, sizes.bytes) == counted(&whole))
 }
 
-/// An entry that puts so many rows of a table at its time, with bodies of 0 to 6 bytes, and ends those that the entry before it put of
+/// An entry that puts so many rows of table 3 at its time, with bodies of 0 to 6 bytes, and ends those that the entry before it put of
 /// the keys up to a bound.
-fn wide(alloc: Global, number: u64, table: u16, count: u64, ended: u64) -> Result<Item, Fail> {
+fn wide(alloc: Global, number: u64, count: u64, ended: u64) -> Result<Item, Fail> {
+    let table = Table::new(3);
     let mut ends = Vec::new(alloc);
     let mut rows = Vec::new(alloc);
     for key in 1..=count {
         if key <= ended {
             let before = version(key, number.saturating_sub(1))?;
-            let table = Table::new(table);
             ends.push(VersionKey { table, ..before })?;
         }
         let body = [7u8; 6];
         let length = (key % 7) as usize;
         let row = row(alloc, &body[..length.min(6)])?;
-        rows.push((Table::new(table), Key::new(key), row))?;
+        rows.push((table, Key::new(key), row))?;
     }
     let entry = Entry::new(7, stream(1)?, number, time(number)?, ends, rows)?;
     Ok(Item::Commit(entry))
@@ -78,13 +78,13 @@ fn counts<J: NodeName, R: Wait + Abort>(rt: &R, alloc: Global, list: NewList) ->
     let seat = seats.first_mut().ok_or("seat")?;
     assert!(rt; agrees(seat)?);
     for number in 1..=6u64 {
-        join_wide(rt, alloc, &node, wide(alloc, number, 3, 50, 50)?, number)?;
+        join_wide(rt, alloc, &node, wide(alloc, number, 50, 50)?, number)?;
         assert!(rt; agrees(seat)?);
     }
-    join_wide(rt, alloc, &node, wide(alloc, 6, 3, 50, 50)?, 6)?;
+    join_wide(rt, alloc, &node, wide(alloc, 6, 50, 50)?, 6)?;
     assert!(rt; agrees(seat)?);
     assert_eq!(rt; seat.sizes()?.rows, 300u64);
-    join_wide(rt, alloc, &node, wide(alloc, 7, 3, 50, 2)?, 7)?;
+    join_wide(rt, alloc, &node, wide(alloc, 7, 50, 2)?, 7)?;
     node.prune(rt, time(3)?)?;
     assert!(rt; agrees(seat)?);
     node.prune(rt, time(6)?)?;
@@ -92,33 +92,6 @@ fn counts<J: NodeName, R: Wait + Abort>(rt: &R, alloc: Global, list: NewList) ->
     node.prune(rt, time(7)?)?;
     assert!(rt; agrees(seat)?);
     assert_eq!(rt; seat.sizes()?.rows, 98u64);
-    Ok(())
-}
-
-#[test]
-fn a_node_lists_its_tables(rt: HostRuntime) -> Result<(), Fail> {
-    let alloc = rt.alloc();
-    tables::<Brand, _>(&rt, alloc, NewList::new(config()?))
-}
-
-/// Tables come in any order, the first and the last among them, and go once nothing of them is held.
-fn tables<J: NodeName, R: Wait + Abort>(rt: &R, alloc: Global, list: NewList) -> Result<(), Fail>
-    requires { list ≡ (J.book, J.kind) }
-{
-    let (node, mut seats) = start::<J, &R>(rt, alloc, list, 1)?;
-    let seat = seats.first_mut().ok_or("seat")?;
-    assert!(rt; seat.tables()?.is_empty());
-    let mut number = 0u64;
-    for table in [9u16, 0, 65_535, 300, 9] {
-        number = number.saturating_add(1);
-        join_wide(rt, alloc, &node, wide(alloc, number, table, 3, 0)?, number)?;
-    }
-    let numbers: Vec<u16> = seat
-        .tables()?
-        .iter()
-        .map(|table| table.number())
-        .collect(alloc)?;
-    assert_eq!(rt; numbers.as_slice(), [0u16, 9, 300, 65_535].as_slice());
     Ok(())
 }
 
@@ -144,8 +117,8 @@ fn rooms<J: NodeName, R: Wait + Abort>(rt: &R, alloc: Global, list: NewList) -> 
 {
     let (node, mut seats) = start::<J, &R>(rt, alloc, list, 1)?;
     let seat = seats.first_mut().ok_or("seat")?;
-    join_wide(rt, alloc, &node, wide(alloc, 1, 3, 400, 0)?, 1)?;
-    join_wide(rt, alloc, &node, wide(alloc, 2, 3, 4, 4)?, 2)?;
+    join_wide(rt, alloc, &node, wide(alloc, 1, 400, 0)?, 1)?;
+    join_wide(rt, alloc, &node, wide(alloc, 2, 4, 4)?, 2)?;
     let (table, low, high) = (Table::new(3), Key::new(1), Key::new(400));
     let many = Query::Range { table, low, high };
     let few = Query::Range {
