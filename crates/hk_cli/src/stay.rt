@@ -343,7 +343,16 @@ fn serve_doors<
     let mut words = TextWriter::new(rt, alloc, Target::Words, &texts, backlog);
     let mut output = Output::new(alloc, &mut lines, &mut words);
     let mut reporter = LinkReporter::new(alloc, &mut output, &heads, level, reports);
-    serve_forever(rt, alloc, doors, seats, in_both, limits, meters, &mut reporter)
+    serve_forever(
+        rt,
+        alloc,
+        doors,
+        seats,
+        in_both,
+        limits,
+        meters,
+        &mut reporter,
+    )
 }
 
 /// The same, and writes what is printed: this thread alone waits where nobody reads it.
@@ -449,7 +458,10 @@ fn stay_list<J: NodeName + Send + Sync, R, W: Write, E: Write>(
     output: &mut Output<'_, W, E>,
 ) -> Result<(), Stop>
 where
-    R: Net<Listener = TcpListener, Stream = TcpStream> + Clock + Files<File = File> + Alloc<A = Global>,
+    R: Net<Listener = TcpListener, Stream = TcpStream>
+        + Clock
+        + Files<File = File>
+        + Alloc<A = Global>,
     R: Threads + Wait + Sync,
     requires { list ≡ (J.book, J.kind) }
 {
@@ -497,7 +509,10 @@ pub fn run_stay<R, W: Write, E: Write>(
     errors: &mut E,
 ) -> u8
 where
-    R: Net<Listener = TcpListener, Stream = TcpStream> + Clock + Files<File = File> + Alloc<A = Global>,
+    R: Net<Listener = TcpListener, Stream = TcpStream>
+        + Clock
+        + Files<File = File>
+        + Alloc<A = Global>,
     R: Threads + Wait + Sync,
     ensures { result ≤ 1 }
 {
