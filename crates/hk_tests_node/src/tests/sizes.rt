@@ -36,7 +36,7 @@ fn wide(alloc: Global, number: u64, count: u64, ended: u64) -> Result<Item, Fail
     let mut ends = Vec::new(alloc);
     let mut rows = Vec::new(alloc);
     for key in 1..=count {
-        if key <= ended {
+        if key <= ended && number > 1 {
             let before = version(key, number.saturating_sub(1))?;
             ends.push(VersionKey { table, ..before })?;
         }
