@@ -4,6 +4,7 @@ use crate::arrivals::Arrival;
 use crate::doors::Door;
 use crate::places::Places;
 use crate::shop::Shop;
+use crate::sockets::Accepted;
 use hk_host::{LinkEvent, Teller};
 use hk_node::NodeName;
 use hk_session::Ended;
@@ -15,21 +16,25 @@ use std::time::Duration;
 /// How many milliseconds pass before an accept that failed is tried again.
 const ACCEPT_PAUSE: u64 = 100;
 
-/// Leaves something for a worker, and wakes it. Returns false where there is none, or no memory for it.
-fn leave<'d, J: NodeName, N: Wait + Drop, R: Wait, const LATEST: u8>(
+/// Leaves a connection for the worker of its place, and wakes it. Returns false where there is none, or no memory for it.
+fn leave<J: NodeName, N: Wait + Drop, R: Wait, const LATEST: u8>(
     rt: &R,
-    shop: &Shop<'d, J, N, LATEST>,
-    worker: Option<usize>,
-    arrival: Arrival<'d, J, LATEST>,
+    shop: &Shop<'_, J, N, LATEST>,
+    accepted: Accepted,
+    door: usize,
+    place: usize,
 ) -> bool {
-    let Some(worker) = worker else {
-        return false;
-    };
+    let worker = shop.staff.short_worker(place).unwrap_or(usize::MAX);
     let Some(inbox) = shop.inboxes.get(worker) else {
         return false;
     };
+    let arrival = Arrival::Opened {
+        accepted,
+        door,
+        place,
+    };
     let is_left = inbox.leave(rt, arrival).is_ok();
-    shop.bell.wake(worker);
+    shop.staff.bell.wake(worker);
     is_left
 }
 
@@ -46,20 +51,15 @@ fn accept_next<J: NodeName, N: Wait + Drop, R: Wait + Clock, const LATEST: u8>(
     teller.turn_to(place, false);
     match door.listener.accept() {
         Ok((accepted, address)) => {
-            shop.meters.note_opened(number);
+            shop.staff.meters.note_opened(number);
             teller.tell(rt, LinkEvent::Opened(address));
-            let arrival = Arrival::Opened {
-                accepted,
-                door: number,
-                place,
-            };
-            if !leave(rt, shop, shop.short_worker(place), arrival) {
+            if !leave(rt, shop, accepted, number, place) {
                 teller.tell(rt, LinkEvent::Ended(Ended::Memory));
-                shop.give_back(rt, number, place);
+                shop.staff.give_back(rt, number, place);
             }
         }
         Err(_error) => {
-            shop.meters.note_failed_accept();
+            shop.staff.meters.note_failed_accept();
             teller.tell(rt, LinkEvent::NotAccepted);
             places.give(rt, place);
             thread::sleep(rt, Duration::from_millis(ACCEPT_PAUSE));
@@ -75,7 +75,7 @@ pub(crate) fn accept_all<J: NodeName, N: Wait + Drop, R: Wait + Clock, const LAT
     teller: Teller<'_>,
 ) {
     let mut teller = teller;
-    let (Some(door), Some(places)) = (shop.doors.get(number), shop.places.get(number)) else {
+    let (Some(door), Some(places)) = (shop.doors.get(number), shop.staff.places.get(number)) else {
         return;
     };
     for _ in rt.forever() {

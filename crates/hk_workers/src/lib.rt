@@ -10,6 +10,7 @@ mod doors;
 mod link;
 mod links;
 mod places;
+mod reactor;
 mod serving;
 mod shop;
 mod sockets;

@@ -155,11 +155,16 @@ impl<'d, const LATEST: u8> Link<'d, LATEST> {
         if has_room {
             self.reserved = bytes;
         } else {
-            self.cut(Ended::Memory);
-            self.unwritten.drop_all();
-            self.rest = Vec::new(self.alloc);
-            self.session = Session::new(self.alloc);
+            self.drop_held();
         }
+    }
+
+    /// Ends it for want of room, and drops what it holds.
+    fn drop_held(&mut self) {
+        self.cut(Ended::Memory);
+        self.unwritten.drop_all();
+        self.rest = Vec::new(self.alloc);
+        self.session = Session::new(self.alloc);
     }
 
     /// The same at once where much stands, so that a reply for which there is no room is dropped before another one is made.

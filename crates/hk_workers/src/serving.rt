@@ -5,15 +5,15 @@ ghost use Rattle.std.specs.Prelude.{◌≡◌};
 use crate::arrivals::Arrival;
 use crate::doors::{Door, Way};
 use crate::link::Link;
+use crate::reactor::Reactor;
 use crate::shop::Shop;
 use crate::sockets::Accepted;
 use crate::turns::{Moment, Turn};
 use crate::worker::Worker;
-use hk_host::{FeedHost, LinkEvent, NodeHost, SeatHost, Teller};
+use hk_host::{FeedHost, NodeHost, SeatHost, Teller};
 use hk_link::LinkState;
-use hk_node::{NodeName, ReaderSeat, Receipt};
-use hk_session::Ended;
-use mio::{Events, Poll, Token};
+use hk_node::{NodeName, ReaderSeat};
+use mio::{Events, Poll};
 use std::alloc::Global;
 use std::rt::Clock;
 use std::sync::Wait;
@@ -24,7 +24,7 @@ use std::time::Duration;
 /// How many milliseconds pass before a wait that failed is tried again.
 const WAIT_PAUSE: u64 = 100;
 
-/// A worker at its work: what all threads share, the sockets that it waits for, who is notified, and its connections.
+/// A worker at its work: what all threads share, its seat, which has left while a connection has its turn, and its connections.
 #[derive(Drop)]
 struct Serving<
     'w,
@@ -34,11 +34,9 @@ struct Serving<
     R: Threads + Wait + Clock + Sync + 'w,
     const LATEST: u8,
 > {
-    rt: &'w R,
     shop: &'w Shop<'d, J, N, LATEST>,
-    poll: Poll,
-    teller: Teller<'w>,
-    worker: Worker<'d, LATEST>,
+    seat: Option<ReaderSeat<J>>,
+    reactor: Reactor<'w, 'd, R, LATEST>,
 }
 
 impl<
@@ -49,38 +47,35 @@ impl<
     R: Threads + Wait + Clock + Sync + 'w,
     const LATEST: u8,
 > Serving<'w, 'd, J, N, R, LATEST> {
-    /// Looks at the clock, which never goes back.
-    fn look_at_clock(&mut self) {
-        if let Ok(time) = self.rt.monotonic() {
-            let now = u64::try_from(time.as_millis()).unwrap_or(0);
-            self.worker.now = self.worker.now.max(now);
-            self.shop.meters.note_time(self.worker.now / 1_000);
-        }
-    }
-
     /// The turn of a connection of a door, over a host of the seat, which is returned.
-    fn turn(
+    fn turn_on(
         &mut self,
         door: &Door<'_, J, N>,
         moment: Moment,
         link: &mut Link<'d, LATEST>,
         seat: ReaderSeat<J>,
     ) -> (Turn, ReaderSeat<J>) {
-        let (rt, alloc, teller) = (self.rt, self.worker.alloc, &self.teller);
+        let Reactor {
+            rt,
+            teller,
+            worker,
+            ..
+        } = &mut self.reactor;
         let Worker {
+            alloc,
             piece,
             out,
             left,
             ..
-        } = &mut self.worker;
+        } = worker;
         match &door.way {
             Way::Open(node) => {
-                let host = NodeHost::telling(rt, alloc, node, seat, teller);
+                let host = NodeHost::telling(*rt, *alloc, node, seat, teller);
                 let (turn, host) = link.turn(moment, piece, out, host, left);
                 (turn, host.into_seat())
             }
             Way::Feeding(node) => {
-                let host = FeedHost::new(NodeHost::telling(rt, alloc, node, seat, teller));
+                let host = FeedHost::new(NodeHost::telling(*rt, *alloc, node, seat, teller));
                 let (turn, host) = link.turn(moment, piece, out, host, left);
                 (turn, host.into_seat())
             }
@@ -92,233 +87,227 @@ impl<
         }
     }
 
-    /// Ends a connection: its socket is closed, and its slot is free.
-    fn close(&mut self, token: usize, link: Box<Link<'d, LATEST>, Global>) {
-        let (ended, door, place) = (link.end(), link.door, link.place);
-        drop(link);
-        self.worker.links.free(token);
-        self.teller.tell(self.rt, LinkEvent::Ended(ended));
-        self.shop.give_back(self.rt, door, place);
+    /// The turn of a connection of a door.
+    fn turn(&mut self, door: &Door<'_, J, N>, moment: Moment, link: &mut Link<'d, LATEST>) -> Turn {
+        let Some(seat) = self.seat.take() else {
+            return Turn::Over;
+        };
+        let seen = seat.seen();
+        let (turn, seat) = self.turn_on(door, moment, link, seat);
+        if seen < seat.seen() {
+            self.reactor.note_change(moment.now);
+        }
+        self.seat = Some(seat);
+        turn
     }
 
-    /// Closes a connection that has no token, for want of memory.
-    fn refuse(&mut self, door: usize, place: usize) {
-        self.teller.turn_to(place, false);
-        self.teller.tell(self.rt, LinkEvent::Ended(Ended::Memory));
-        self.shop.give_back(self.rt, door, place);
-    }
-
-    /// Leaves a connection for a worker that gives long answers. Where that can't be done it ends.
-    fn hand_over(&mut self, token: usize, link: Box<Link<'d, LATEST>, Global>, seen: Receipt<J>) {
+    /// Leaves a connection for a worker that gives long answers, with what this worker's seat has seen. Where that can't be done it ends.
+    fn hand_over(&mut self, token: usize, link: Box<Link<'d, LATEST>, Global>) {
         let mut link = link;
-        link.end_round(self.worker.now);
-        let worker = self.shop.long_worker(link.place);
-        let is_free = !link.is_cut && link.socket.deregister(self.poll.registry()).is_ok();
+        let is_free = self.reactor.lets_leave(&mut link);
+        let worker = self.shop.staff.long_worker(link.place);
         let inbox = worker.and_then(|it| self.shop.inboxes.get(it));
-        let (Some(worker), Some(inbox), true) = (worker, inbox, is_free) else {
-            self.worker.cut(token, link);
+        let (Some(worker), Some(inbox), Some(seat), true) = (worker, inbox, &self.seat, is_free)
+        else {
+            self.reactor.worker.cut(token, link);
             return;
         };
-        match inbox.leave(self.rt, Arrival::Moved { link, seen }) {
+        let seen = seat.receipt();
+        match inbox.leave(self.reactor.rt, Arrival::Moved { link, seen }) {
             Ok(()) => {
-                self.worker.links.free(token);
-                self.shop.bell.wake(worker);
+                self.reactor.worker.links.free(token);
+                self.shop.staff.bell.wake(worker);
             }
-            Err(Arrival::Moved { link, .. }) => self.worker.cut(token, link),
+            Err(Arrival::Moved { link, .. }) => self.reactor.worker.cut(token, link),
             Err(Arrival::Opened { .. }) => {}
         }
     }
 
-    /// What a connection knows as it has its turn.
-    fn moment(&self, door: &Door<'_, J, N>) -> Moment {
-        Moment {
-            passes: door.way.passes(),
-            is_at_long_end: self.shop.is_at_long_end(self.worker.number),
-            counts_reads: self.shop.limits.read_seconds > 0,
-            lets_go: !self.worker.has_freed,
-            readable: self.shop.bell.readable(),
-            now: self.worker.now,
-        }
-    }
-
     /// Does what a connection wants after its turn.
-    fn settle(
-        &mut self,
-        token: usize,
-        turn: Turn,
-        link: Box<Link<'d, LATEST>, Global>,
-        seat: &ReaderSeat<J>,
-    ) {
+    fn settle(&mut self, token: usize, turn: Turn, link: Box<Link<'d, LATEST>, Global>) {
         match turn {
-            Turn::Over => self.close(token, link),
-            Turn::Moves => self.hand_over(token, link, seat.receipt()),
-            Turn::Waits => self.worker.links.put(token, link),
-            Turn::Again => self.worker.put_listed(token, link),
+            Turn::Over => self.reactor.close(token, link),
+            Turn::Moves => self.hand_over(token, link),
+            Turn::Waits => self.reactor.worker.links.put(token, link),
+            Turn::Again => self.reactor.worker.put_listed(token, link),
             Turn::Freed => {
-                self.worker.has_freed = true;
-                self.worker.put_listed(token, link);
+                self.reactor.worker.has_freed = true;
+                self.reactor.worker.put_listed(token, link);
             }
             Turn::Parks {
                 number,
                 milliseconds,
-            } => self.worker.park(token, link, number, milliseconds),
+            } => self.reactor.worker.park(token, link, number, milliseconds),
         }
     }
 
     /// Gives the connection under a token its turn.
-    fn serve(&mut self, token: usize, seat: ReaderSeat<J>) -> ReaderSeat<J> {
-        let Some(mut link) = self.worker.links.take(token) else {
-            return seat;
+    fn serve(&mut self, token: usize) {
+        let Some(mut link) = self.reactor.worker.links.take(token) else {
+            return;
         };
         let Some(door) = self.shop.doors.get(link.door) else {
-            return seat;
+            return;
         };
-        link.is_listed = false;
-        self.look_at_clock();
-        let moment = self.moment(door);
-        if let Some(awaited) = link.awaited {
-            if !link.is_cut {
-                self.worker.links.put(token, link);
-                return seat;
-            }
-            link.awaited = None;
-            self.worker.waiting.remove(token, awaited);
-        }
-        self.teller.turn_to(link.place, door.tells_changes);
-        let (turn, seat) = self.turn(door, moment, &mut link, seat);
-        self.settle(token, turn, link, &seat);
-        seat
+        let turn = if self.reactor.begin_turn(token, &mut link) {
+            let moment = self.reactor.moment(door.way.passes());
+            self.reactor.teller.turn_to(link.place, door.tells_changes);
+            self.turn(door, moment, &mut link)
+        } else {
+            Turn::Waits
+        };
+        self.settle(token, turn, link);
     }
 
     /// Gives each connection that is listed its turn, and then writes their replies: a peer that has several connections is woken once.
-    fn take_turns(&mut self, seat: ReaderSeat<J>) -> ReaderSeat<J> {
-        let mut seat = seat;
-        self.worker.has_freed = false;
-        let count = self.worker.links.begin_round();
+    fn take_turns(&mut self) {
+        self.reactor.worker.has_freed = false;
+        let count = self.reactor.worker.links.begin_round();
         for at in 0..count {
-            if let Some(token) = self.worker.links.in_round(at) {
-                seat = self.serve(token, seat);
+            if let Some(token) = self.reactor.worker.links.in_round(at) {
+                self.serve(token);
             }
         }
-        self.worker.end_round(count, &self.shop.limits);
-        let least = self.worker.waiting.least_number();
-        self.shop.bell.expect(self.worker.number, least);
-        seat
+        let staff = &self.shop.staff;
+        self.reactor.worker.end_round(count, &staff.limits);
+        let least = self.reactor.worker.waiting.least_number();
+        staff.bell.expect(self.reactor.worker.number, least);
     }
 
     /// What a connection of a door keeps at first: pins that others left, where it may release them, else nothing.
     fn first_kept(&mut self, door: &Door<'d, J, N>) -> LinkState<'d> {
         let left = match door.way {
-            Way::Open(_) => self.worker.left.pop(),
+            Way::Open(_) => self.reactor.worker.left.pop(),
             Way::Feeding(_) | Way::Reading => None,
         };
         match left {
             Some(kept) => kept,
-            None => LinkState::new(self.worker.alloc, door.budget, Some(self.shop.meters)),
+            None => {
+                let staff = &self.shop.staff;
+                LinkState::new(self.reactor.worker.alloc, door.budget, Some(staff.meters))
+            }
         }
     }
 
     /// Takes in a connection that was accepted. Where that fails it is closed.
     fn open(&mut self, accepted: Accepted, door: usize, place: usize) {
-        let (alloc, now, meters) = (self.worker.alloc, self.worker.now, self.shop.meters);
-        let link = match accepted.into_socket() {
-            Ok(socket) => {
-                Box::new(alloc, Link::new(alloc, socket, door, place, now, meters)).ok()
-            }
-            Err(_error) => None,
-        };
-        let Some(mut link) = link else {
-            self.refuse(door, place);
+        let Some(mut link) = self.reactor.opened(accepted, door, place) else {
+            self.reactor.refuse(door, place);
             return;
         };
         if let Some(door) = self.shop.doors.get(door) {
             link.kept = Some(self.first_kept(door));
         }
-        self.enter(link);
+        self.reactor.enter(link);
     }
 
-    /// Takes in a connection. Where there is no memory for it, it is closed.
-    fn enter(&mut self, link: Box<Link<'d, LATEST>, Global>) {
-        let mut link = link;
-        let Ok(token) = self.worker.links.new_token() else {
-            self.refuse(link.door, link.place);
-            return;
-        };
-        link.is_listed = false;
-        let registry = self.poll.registry();
-        if link.socket.register(registry, Token(token)).is_err() {
-            link.cut(Ended::Memory);
+    /// Takes in what another left.
+    fn take_arrival(&mut self, arrival: Arrival<'d, J, LATEST>) {
+        match arrival {
+            Arrival::Opened {
+                accepted,
+                door,
+                place,
+            } => self.open(accepted, door, place),
+            Arrival::Moved { link, seen } => {
+                if let Some(seat) = &mut self.seat {
+                    seat.learn(seen);
+                }
+                self.reactor.enter(link);
+            }
         }
-        self.worker.put_listed(token, link);
     }
 
     /// Takes in what others left.
-    fn take_arrivals(&mut self, seat: ReaderSeat<J>) -> ReaderSeat<J> {
-        let mut seat = seat;
-        let Some(inbox) = self.shop.inboxes.get(self.worker.number) else {
-            return seat;
+    fn take_arrivals(&mut self) {
+        let Some(inbox) = self.shop.inboxes.get(self.reactor.worker.number) else {
+            return;
         };
-        for arrival in inbox.take_all(self.rt, self.worker.alloc) {
-            match arrival {
-                Arrival::Opened {
-                    accepted,
-                    door,
-                    place,
-                } => self.open(accepted, door, place),
-                Arrival::Moved { link, seen } => {
-                    seat.learn(seen);
-                    self.enter(link);
+        for arrival in inbox.take_all(self.reactor.rt, self.reactor.worker.alloc) {
+            self.take_arrival(arrival);
+        }
+    }
+
+    /// Has the second copy of the node catch up with a change that took long, once nobody waits for a turn: the next change, of whomever,
+    /// would pay for both copies.
+    fn catch_up(&mut self) {
+        if !self.reactor.takes_settling() {
+            return;
+        }
+        for door in &self.shop.doors {
+            match door.way {
+                Way::Open(node) | Way::Feeding(node) => {
+                    node.settle(self.reactor.rt);
+                    return;
                 }
+                Way::Reading => {}
             }
         }
-        seat
     }
 
     /// One round: what the system said, what others left, who waited long enough, and the turns of those that can go on.
-    fn round(&mut self, events: &Events, seat: ReaderSeat<J>) -> ReaderSeat<J> {
-        let mut seat = seat;
-        self.look_at_clock();
-        if self.worker.take_events(events) {
-            seat = self.take_arrivals(seat);
+    fn round(&mut self, events: &Events) {
+        self.reactor.look_at_clock();
+        if self.reactor.worker.take_events(events) {
+            self.take_arrivals();
         }
-        self.worker.wake_due(self.shop.bell.readable());
-        self.worker.look_at_limits(&self.shop.limits);
-        self.take_turns(seat)
+        let staff = &self.shop.staff;
+        self.reactor.worker.wake_due(staff.bell.readable());
+        self.reactor.worker.look_at_limits(&staff.limits);
+        self.take_turns();
+        self.catch_up();
     }
+}
+
+/// What a worker begins with: its number, a buffer for what it reads, and room for what the system says.
+#[derive(Drop)]
+pub(crate) struct Tools {
+    pub(crate) alloc: Global,
+    pub(crate) number: usize,
+    pub(crate) piece: Vec<u8>,
+    pub(crate) events: Events,
 }
 
 /// Serves connections without an end, by a worker of this number.
 pub(crate) fn serve_worker<
     'w,
+    'd,
     J: NodeName,
     N: Wait + Drop,
     R: Threads + Wait + Clock + Sync,
     const LATEST: u8,
 >(
     rt: &'w R,
-    alloc: Global,
-    number: usize,
-    shop: &'w Shop<'_, J, N, LATEST>,
+    shop: &'w Shop<'d, J, N, LATEST>,
     poll: Poll,
-    events: Events,
-    piece: Vec<u8>,
+    tools: Tools,
     teller: Teller<'w>,
     seat: ReaderSeat<J>,
 ) {
-    let (mut events, mut seat) = (events, seat);
-    let worker = Worker::new(alloc, number, piece);
-    let mut serving = Serving {
+    let Tools {
+        alloc,
+        number,
+        piece,
+        mut events,
+    } = tools;
+    let reactor = Reactor {
         rt,
-        shop,
+        staff: &shop.staff,
         poll,
         teller,
-        worker,
+        worker: Worker::new(alloc, number, piece),
+    };
+    let mut serving = Serving {
+        shop,
+        seat: Some(seat),
+        reactor,
     };
     for _ in rt.forever() {
-        let time_out = serving.worker.time_out(shop.bell.readable());
-        if serving.poll.poll(&mut events, time_out).is_err() {
+        let readable = shop.staff.bell.readable();
+        let time_out = serving.reactor.worker.time_out(readable);
+        if serving.reactor.poll.poll(&mut events, time_out).is_err() {
             thread::sleep(rt, Duration::from_millis(WAIT_PAUSE));
         }
-        seat = serving.round(&events, seat);
+        serving.round(&events);
     }
 }

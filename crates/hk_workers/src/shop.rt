@@ -9,14 +9,13 @@ use hk_node::NodeName;
 use std::sync::Wait;
 use std::sync::atomic::{AtomicU64, Ordering};
 
-/// What all threads of a node share.
+/// What all threads of a node share that has nothing of the node itself: who works, and what is counted.
 #[derive(Drop)]
-pub(crate) struct Shop<'d, J: NodeName, N: Wait + Drop, const LATEST: u8> {
-    pub(crate) doors: Vec<Door<'d, J, N>>,
+pub(crate) struct Staff<'d> {
     /// The places of each door's connections.
     pub(crate) places: Vec<Places>,
-    /// What is left for each worker: first those for short answers, then as many for long ones.
-    pub(crate) inboxes: Vec<Inbox<'d, J, LATEST>>,
+    /// How many workers there are: first those for short answers, then as many for long ones.
+    pub(crate) workers: usize,
     /// What wakes each of them.
     pub(crate) bell: Bell,
     pub(crate) limits: Limits,
@@ -26,10 +25,19 @@ pub(crate) struct Shop<'d, J: NodeName, N: Wait + Drop, const LATEST: u8> {
     pub(crate) running: AtomicU64,
 }
 
-impl<'d, J: NodeName, N: Wait + Drop, const LATEST: u8> Shop<'d, J, N, LATEST> {
+/// What all threads of a node share.
+#[derive(Drop)]
+pub(crate) struct Shop<'d, J: NodeName, N: Wait + Drop, const LATEST: u8> {
+    pub(crate) doors: Vec<Door<'d, J, N>>,
+    /// What is left for each worker.
+    pub(crate) inboxes: Vec<Inbox<'d, J, LATEST>>,
+    pub(crate) staff: Staff<'d>,
+}
+
+impl Staff<'_> {
     /// How many workers give short answers.
     pub(crate) fn short_workers(&self) -> usize {
-        self.inboxes.len() / 2
+        self.workers / 2
     }
 
     /// Whether this worker gives long answers.
@@ -72,7 +80,7 @@ impl<'d, J: NodeName, N: Wait + Drop, const LATEST: u8> Shop<'d, J, N, LATEST> {
     pub(crate) fn short_worker(&self, place: usize) -> Option<usize> {
         let short = self.short_workers();
         if short == 0 {
-            return self.worker_of(0, self.inboxes.len(), place);
+            return self.worker_of(0, self.workers, place);
         }
         self.worker_of(0, short, place)
     }
@@ -80,7 +88,7 @@ impl<'d, J: NodeName, N: Wait + Drop, const LATEST: u8> Shop<'d, J, N, LATEST> {
     /// The worker for the long answers of a connection at this place.
     pub(crate) fn long_worker(&self, place: usize) -> Option<usize> {
         let short = self.short_workers();
-        self.worker_of(short, self.inboxes.len().saturating_sub(short), place)
+        self.worker_of(short, self.workers.saturating_sub(short), place)
     }
 
     /// Gives back the slot of a connection of a door.

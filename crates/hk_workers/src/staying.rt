@@ -7,8 +7,8 @@ use crate::accepting::accept_all;
 use crate::arrivals::Inbox;
 use crate::doors::{Door, Limits};
 use crate::places::Places;
-use crate::serving::serve_worker;
-use crate::shop::Shop;
+use crate::serving::{Tools, serve_worker};
+use crate::shop::{Shop, Staff};
 use crate::worker::{PIECE, WAKER};
 use crossbeam_channel::{Sender, bounded};
 use hk_host::{Bell, EVENTS, LinkEvent, NetFault, Teller, Watch, hand_on};
@@ -70,6 +70,18 @@ fn inboxes_of<'d, J: NodeName, const LATEST: u8>(
     Ok(inboxes)
 }
 
+/// What a worker of this number begins with.
+fn tools_of(alloc: Global, number: usize) -> Option<Tools> {
+    let piece = Vec::from_elem(alloc, 0u8, PIECE).ok()?;
+    let events = Events::with_capacity(alloc, MOST_EVENTS).ok()?;
+    Some(Tools {
+        alloc,
+        number,
+        piece,
+        events,
+    })
+}
+
 /// Starts the thread of a worker. Returns false where it can't be started.
 fn start_worker<
     's,
@@ -89,15 +101,14 @@ fn start_worker<
     seat: ReaderSeat<J>,
     events: &Sender<(usize, LinkEvent)>,
 ) -> bool {
-    let (Ok(piece), Ok(room), Ok(teller)) = (
-        Vec::from_elem(alloc, 0u8, PIECE),
-        Events::with_capacity(alloc, MOST_EVENTS),
-        Teller::new(events, &shop.bell),
-    ) else {
+    let Ok(teller) = Teller::new(events, &shop.staff.bell) else {
+        return false;
+    };
+    let Some(tools) = tools_of(alloc, number) else {
         return false;
     };
     scope
-        .spawn(move || serve_worker(rt, alloc, number, shop, poll, room, piece, teller, seat))
+        .spawn(move || serve_worker(rt, shop, poll, tools, teller, seat))
         .is_ok()
 }
 
@@ -117,7 +128,7 @@ fn start_door<
     shop: &'s Shop<'d, J, N, LATEST>,
     events: &Sender<(usize, LinkEvent)>,
 ) -> bool {
-    match Teller::new(events, &shop.bell) {
+    match Teller::new(events, &shop.staff.bell) {
         Ok(teller) => scope
             .spawn(move || accept_all(rt, shop, number, teller))
             .is_ok(),
@@ -148,7 +159,7 @@ fn start_all<
     let mut number = 0usize;
     for (poll, seat) in polls.into_iter().zip(seats.into_iter()) {
         if start_worker(scope, rt, alloc, number, shop, poll, seat, events) {
-            shop.note_running(number);
+            shop.staff.note_running(number);
         } else {
             watch.told(number, LinkEvent::NotStarted);
         }
@@ -162,7 +173,7 @@ fn start_all<
             watch.told(door, LinkEvent::NotStarted);
         }
     }
-    is_open && shop.short_worker(0).is_some()
+    is_open && shop.staff.short_worker(0).is_some()
 }
 
 /// Starts all threads, and hands on what happens.
@@ -200,6 +211,50 @@ fn serve_shop<
     )
 }
 
+/// The sets of sockets of so many workers, and the bell that wakes whoever waits for them.
+fn bell_of<R: Net>(rt: &R, alloc: Global, workers: usize) -> Result<(Vec<Poll>, Bell), NetFault> {
+    let (polls, wakers) = polls_of(rt, alloc, workers)?;
+    let bell = Bell::new(alloc, wakers)?;
+    Ok((polls, bell))
+}
+
+/// Rings the bell with what is readable as the node begins to be served.
+fn ring_first<J: NodeName>(bell: &Bell, seats: &mut Vec<ReaderSeat<J>>) {
+    if let Some(seat) = seats.first_mut() {
+        if let Ok(front) = seat.front() {
+            bell.ring(front.readable);
+        }
+    }
+}
+
+/// What all threads share, and the sets of sockets of the workers.
+fn shop_of<'d, J: NodeName, N: Wait + Drop, R: Net, const LATEST: u8>(
+    rt: &R,
+    alloc: Global,
+    doors: Vec<Door<'d, J, N>>,
+    workers: usize,
+    limits: Limits,
+    meters: &'d Meters<'d>,
+) -> Result<(Vec<Poll>, Shop<'d, J, N, LATEST>), NetFault> {
+    let inboxes = inboxes_of(alloc, workers)?;
+    let places = places_of(alloc, &doors)?;
+    let (polls, bell) = bell_of(rt, alloc, workers)?;
+    let staff = Staff {
+        places,
+        workers,
+        bell,
+        limits,
+        meters,
+        running: AtomicU64::new(0),
+    };
+    let shop = Shop {
+        doors,
+        inboxes,
+        staff,
+    };
+    Ok((polls, shop))
+}
+
 /// Serves connections in messages up to this version.
 fn serve_in<
     'd,
@@ -218,24 +273,8 @@ fn serve_in<
     watch: &mut T,
 ) -> Result<(), NetFault> {
     let mut seats = seats;
-    let (polls, wakers) = polls_of(rt, alloc, seats.len())?;
-    let bell = Bell::new(alloc, wakers)?;
-    if let Some(seat) = seats.first_mut() {
-        if let Ok(front) = seat.front() {
-            bell.ring(front.readable);
-        }
-    }
-    let places = places_of(alloc, &doors)?;
-    let inboxes = inboxes_of(alloc, seats.len())?;
-    let shop: Shop<'d, J, N, LATEST> = Shop {
-        doors,
-        places,
-        inboxes,
-        bell,
-        limits,
-        meters,
-        running: AtomicU64::new(0),
-    };
+    let (polls, shop) = shop_of::<J, N, R, LATEST>(rt, alloc, doors, seats.len(), limits, meters)?;
+    ring_first(&shop.staff.bell, &mut seats);
     serve_shop(rt, alloc, &shop, polls, seats, watch)
 }
 
@@ -245,6 +284,9 @@ fn serve_in<
 /// query other than for one row, a page of more than 1,024 rows, or a frame of more than 65,536 bytes) is handed to a worker
 /// for long answers, whose seat first catches up with the other one, and stays there. So what a long answer holds up are other
 /// connections that ask for something long, and what a change holds up are those of its worker.
+///
+/// Once the replies to a change that took 20 milliseconds and more are written, its worker has the node's second copy catch up with it
+/// (`Node::settle`), so that the next change doesn't pay for that.
 ///
 /// A connection is read, and its next request answered, only while at most 65,536 bytes of its replies stand unwritten. It is answered in
 /// version 1, or where `in_both` says so in both versions. Connections keep at most as many bytes as the budgets of their doors

@@ -54,6 +54,11 @@ pub(crate) enum Turn {
     Over,
 }
 
+/// Whether a release was made.
+fn is_done(reply: &Reply) -> bool {
+    matches!(reply, Reply::Later(LaterReply::Done { .. }))
+}
+
 /// Asks for the release of some of a connection's pins, the last ones first, as the connection itself could. Returns false where one isn't
 /// released.
 fn release_some<H: NodeSide + Drop>(both: &mut PartsHost<'_, H>) -> bool
@@ -65,9 +70,9 @@ fn release_some<H: NodeSide + Drop>(both: &mut PartsHost<'_, H>) -> bool
             return true;
         };
         let request = Request::Later(LaterRequest::Release { number });
-        let Reply::Later(LaterReply::Done { .. }) = both.answer_uncounted(request) else {
+        if !is_done(&both.answer_uncounted(request)) {
             return false;
-        };
+        }
     }
     true
 }
@@ -348,17 +353,30 @@ impl<'d, const LATEST: u8> Link<'d, LATEST> {
         if self.is_cut { Turn::Again } else { turn }
     }
 
+    /// Keeps what is kept beside the worker's seat.
+    fn keep(&mut self, kept: LinkState<'d>) {
+        self.kept = Some(kept);
+    }
+
     /// Keeps what is left of a session that has ended: pins that the node handed back are others' from now on.
     fn let_go(&mut self, state: LinkState<'d>, left: &mut Vec<LinkState<'d>>) {
         self.has_let_go = true;
         self.reserved = 0;
-        if state.hold_count() == 0 {
-            self.kept = Some(state);
-            self.reserve_much();
+        if state.hold_count() > 0 {
+            // Where memory runs out the pins stay in the node.
+            let _kept = left.push(state);
             return;
         }
-        // Where memory runs out the pins stay in the node.
-        let _kept = left.push(state);
+        self.keep(state);
+        self.reserve_much();
+    }
+
+    /// What it keeps, while its session has not let go of it.
+    fn take_kept(&mut self) -> Option<LinkState<'d>> {
+        if self.has_let_go {
+            return None;
+        }
+        self.kept.take()
     }
 
     /// Has its turn over a host of its worker's seat, which is returned. Once its session has ended what it kept is dropped: the release
@@ -374,53 +392,47 @@ impl<'d, const LATEST: u8> Link<'d, LATEST> {
         requires { H.ready host }
     {
         self.write(moment.now);
-        let Some(kept) = self.kept.take() else {
+        let Some(kept) = self.take_kept() else {
             return (self.linger(moment, piece), host);
         };
-        if self.has_let_go {
-            self.kept = Some(kept);
-            return (self.linger(moment, piece), host);
+        if self.ended.is_some() {
+            return self.end_session(moment, host, kept, left);
         }
         let mut both = PartsHost::new(host, kept);
-        if self.ended.is_none() {
-            let turn = self.steps(moment, piece, out, &mut both);
-            if self.ended.is_none() {
-                let (host, kept) = both.into_parts();
-                self.kept = Some(kept);
-                self.reserve_much();
-                return (self.unless_cut(turn), host);
-            }
+        let turn = self.steps(moment, piece, out, &mut both);
+        let (host, kept) = both.into_parts();
+        if self.ended.is_some() {
+            return self.end_session(moment, host, kept, left);
         }
-        self.end_session(moment, both, left)
+        self.keep(kept);
+        self.reserve_much();
+        (self.unless_cut(turn), host)
     }
 
     /// What is done with the pins of a session that has ended: of many some in each round, and then the others.
     fn end_session<H: NodeSide + Drop>(
         &mut self,
         moment: Moment,
-        both: PartsHost<'d, H>,
+        host: H,
+        kept: LinkState<'d>,
         left: &mut Vec<LinkState<'d>>,
     ) -> (Turn, H)
-        requires { H.ready both.inner }
+        requires { H.ready host }
     {
-        let (host, kept) = both.into_parts();
-        if kept.hold_count() <= FEW_PINS {
-            let (host, state) = PartsHost::new(host, kept).end();
-            self.let_go(state, left);
+        let is_few = kept.hold_count() <= FEW_PINS;
+        if !is_few && !moment.lets_go {
+            self.keep(kept);
             return (Turn::Again, host);
         }
-        if !moment.lets_go {
-            self.kept = Some(kept);
-            return (Turn::Again, host);
-        }
+        let turn = if is_few { Turn::Again } else { Turn::Freed };
         let mut both = PartsHost::new(host, kept);
-        if release_some(&mut both) {
+        if !is_few && release_some(&mut both) {
             let (host, kept) = both.into_parts();
-            self.kept = Some(kept);
-            return (Turn::Freed, host);
+            self.keep(kept);
+            return (turn, host);
         }
         let (host, state) = both.end();
         self.let_go(state, left);
-        (Turn::Freed, host)
+        (turn, host)
     }
 }

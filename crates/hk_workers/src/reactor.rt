@@ -1,0 +1,130 @@
+//! A worker's sockets and connections, and what it does with them beside their turns: nothing of it asks the node.
+
+use crate::link::Link;
+use crate::shop::Staff;
+use crate::sockets::Accepted;
+use crate::turns::Moment;
+use crate::worker::Worker;
+use hk_doors::Passes;
+use hk_host::{LinkEvent, Teller};
+use hk_session::Ended;
+use mio::{Poll, Token};
+use std::alloc::Global;
+use std::rt::Clock;
+use std::sync::Wait;
+
+/// From how many milliseconds on a turn that changes the node has its second copy catch up.
+const LONG_CHANGE: u64 = 20;
+
+/// The sockets that a worker waits for, who is notified, and its connections.
+#[derive(Drop)]
+pub(crate) struct Reactor<'w, 'd, R: Wait + Clock + 'w, const LATEST: u8> {
+    pub(crate) rt: &'w R,
+    pub(crate) staff: &'w Staff<'d>,
+    pub(crate) poll: Poll,
+    pub(crate) teller: Teller<'w>,
+    pub(crate) worker: Worker<'d, LATEST>,
+}
+
+impl<'w, 'd, R: Wait + Clock + 'w, const LATEST: u8> Reactor<'w, 'd, R, LATEST> {
+    /// Looks at the clock, which never goes back.
+    pub(crate) fn look_at_clock(&mut self) {
+        if let Ok(time) = self.rt.monotonic() {
+            let now = u64::try_from(time.as_millis()).unwrap_or(0);
+            self.worker.now = self.worker.now.max(now);
+            self.staff.meters.note_time(self.worker.now / 1_000);
+        }
+    }
+
+    /// What a connection knows as it has its turn, behind a door that lets these requests through.
+    pub(crate) fn moment(&self, passes: Passes) -> Moment {
+        Moment {
+            passes,
+            is_at_long_end: self.staff.is_at_long_end(self.worker.number),
+            counts_reads: self.staff.limits.read_seconds > 0,
+            lets_go: !self.worker.has_freed,
+            readable: self.staff.bell.readable(),
+            now: self.worker.now,
+        }
+    }
+
+    /// Takes a connection off the lists for its turn. Returns false where it waits for a time: it is cut, or it has none.
+    pub(crate) fn begin_turn(&mut self, token: usize, link: &mut Link<'d, LATEST>) -> bool {
+        link.is_listed = false;
+        self.look_at_clock();
+        let Some(awaited) = link.awaited else {
+            return true;
+        };
+        if link.is_cut {
+            link.awaited = None;
+            self.worker.waiting.remove(token, awaited);
+        }
+        link.is_cut
+    }
+
+    /// Notes a turn that changed the node since then: where it took long, the node's second copy is to catch up.
+    pub(crate) fn note_change(&mut self, began: u64) {
+        if self.staff.is_at_long_end(self.worker.number) {
+            self.look_at_clock();
+            let took = self.worker.now.saturating_sub(began);
+            self.worker.has_to_settle = self.worker.has_to_settle || took >= LONG_CHANGE;
+        }
+    }
+
+    /// Whether the node's second copy is to catch up now, since nobody waits for a turn.
+    pub(crate) fn takes_settling(&mut self) -> bool {
+        let settles = self.worker.has_to_settle && !self.worker.links.has_listed();
+        self.worker.has_to_settle = self.worker.has_to_settle && !settles;
+        settles
+    }
+
+    /// Ends a connection: its socket is closed, and its slot is free.
+    pub(crate) fn close(&mut self, token: usize, link: Box<Link<'d, LATEST>, Global>) {
+        let (ended, door, place) = (link.end(), link.door, link.place);
+        drop(link);
+        self.worker.links.free(token);
+        self.teller.tell(self.rt, LinkEvent::Ended(ended));
+        self.staff.give_back(self.rt, door, place);
+    }
+
+    /// Closes a connection that has no token, for want of memory.
+    pub(crate) fn refuse(&mut self, door: usize, place: usize) {
+        self.teller.turn_to(place, false);
+        self.teller.tell(self.rt, LinkEvent::Ended(Ended::Memory));
+        self.staff.give_back(self.rt, door, place);
+    }
+
+    /// A connection that was accepted, where it can be served.
+    pub(crate) fn opened(
+        &self,
+        accepted: Accepted,
+        door: usize,
+        place: usize,
+    ) -> Option<Box<Link<'d, LATEST>, Global>> {
+        let (alloc, now, meters) = (self.worker.alloc, self.worker.now, self.staff.meters);
+        let socket = accepted.into_socket().ok()?;
+        Box::new(alloc, Link::new(alloc, socket, door, place, now, meters)).ok()
+    }
+
+    /// Takes in a connection. Where there is no memory for it, it is closed.
+    pub(crate) fn enter(&mut self, link: Box<Link<'d, LATEST>, Global>) {
+        let mut link = link;
+        let Ok(token) = self.worker.links.new_token() else {
+            self.refuse(link.door, link.place);
+            return;
+        };
+        link.is_listed = false;
+        let registry = self.poll.registry();
+        if link.socket.register(registry, Token(token)).is_err() {
+            link.cut(Ended::Memory);
+        }
+        self.worker.put_listed(token, link);
+    }
+
+    /// Writes the replies of a connection that is handed to another worker, and has its socket's events come here no more. Returns whether
+    /// it can be.
+    pub(crate) fn lets_leave(&mut self, link: &mut Link<'d, LATEST>) -> bool {
+        link.end_round(self.worker.now);
+        !link.is_cut && link.socket.deregister(self.poll.registry()).is_ok()
+    }
+}
