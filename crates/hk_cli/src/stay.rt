@@ -160,7 +160,7 @@ fn doors_of<'d, J: NodeName, N: Wait + Drop>(
     if let Some(listener) = &listeners.read_socket {
         doors.push(Door::reading_unix(listener, links, readers))?;
     }
-    Ok(doors)
+    furnished(alloc, doors, stay)
 }
 
 /// The same doors, of whose connections each change is reported too where that is asked for.
@@ -449,6 +449,59 @@ fn tell_start<W: Write, E: Write>(
     }
 }
 
+/// Has a new node take what it begins with, and opens its ports and sockets.
+fn opened<J: NodeName, R, W: Write, E: Write>(
+    rt: &R,
+    node: &Node<J, &R>,
+    stay: &Stay<'_>,
+    seats: &mut Vec<ReaderSeat<J>>,
+    output: &mut Output<'_, W, E>,
+) -> Result<Listeners, Stop>
+where
+    R: Net<Listener = TcpListener, Stream = TcpStream> + Clock + Files + Alloc<A = Global>,
+    R: Threads + Wait + Sync,
+{
+    take_start(rt, node, stay, seats, output)?;
+    let listeners = listeners_of(rt, stay, output)?;
+    tell_files(rt.alloc(), workers_of(rt, stay), stay, output)?;
+    output.flush()?;
+    Ok(listeners)
+}
+
+/// Who reports the node's front, where that is asked for.
+fn reports_of<J: NodeName>(stay: &Stay<'_>, seats: &mut Vec<ReaderSeat<J>>) -> Option<Reports<J>> {
+    match stay.report_changes {
+        0 => None,
+        every => seats.pop().map(|seat| Reports::new(seat, every)),
+    }
+}
+
+/// Serves connections at the doors of a node without an end.
+fn stay_at<J: NodeName + Send + Sync, R, W: Write, E: Write>(
+    rt: &R,
+    config: Config,
+    stay: &Stay<'_>,
+    doors: Vec<Door<'_, J, &R>>,
+    seats: Vec<ReaderSeat<J>>,
+    budgets: &Budgets,
+    parts_bytes: Option<u64>,
+    output: &mut Output<'_, W, E>,
+) -> Result<(), Stop>
+where
+    R: Net<Listener = TcpListener, Stream = TcpStream>
+        + Clock
+        + Files<File = File>
+        + Alloc<A = Global>,
+    R: Threads + Wait + Sync,
+{
+    let readers = budgets.reading.as_ref();
+    let meters = meters_of(rt, &budgets.others, readers, doors.len())?;
+    tell_start(rt.alloc(), config, stay, parts_bytes, output)?;
+    let mut seats = seats;
+    let reports = reports_of(stay, &mut seats);
+    serve_writing(rt, rt.alloc(), stay, doors, seats, &meters, reports, output).map_err(stop_of)
+}
+
 /// Serves connections to a new node of this list without an end.
 fn stay_list<J: NodeName + Send + Sync, R, W: Write, E: Write>(
     rt: &R,
@@ -466,28 +519,26 @@ where
     requires { list ≡ (J.book, J.kind) }
 {
     let alloc = rt.alloc();
-    let workers = workers_of(rt, stay);
-    let (node, mut seats) = start::<J, &R>(rt, alloc, list, seats_wanted(workers, stay))?;
-    take_start(rt, &node, stay, &mut seats, output)?;
-    let listeners = listeners_of(rt, stay, output)?;
+    let wanted = seats_wanted(workers_of(rt, stay), stay);
+    let (node, mut seats) = start::<J, &R>(rt, alloc, list, wanted)?;
+    let listeners = opened(rt, &node, stay, &mut seats, output)?;
     let stay = &Stay {
         port: port_of(&listeners.open, stay.port),
         ..*stay
     };
-    tell_files(alloc, workers, stay, output)?;
-    output.flush()?;
-    let reports = match stay.report_changes {
-        0 => None,
-        every => seats.pop().map(|seat| Reports::new(seat, every)),
-    };
     let parts_bytes = parts_bytes_of(rt, stay);
     let budgets = Budgets::new(alloc, parts_bytes.unwrap_or(PLAIN_BYTES), stay)?;
     let doors = doors_of(alloc, &node, stay, &listeners, &budgets)?;
-    let doors = furnished(alloc, doors, stay)?;
-    let readers = budgets.reading.as_ref();
-    let meters = meters_of(rt, &budgets.others, readers, doors.len())?;
-    tell_start(alloc, config, stay, parts_bytes, output)?;
-    serve_writing(rt, alloc, stay, doors, seats, &meters, reports, output).map_err(stop_of)
+    stay_at(
+        rt,
+        config,
+        stay,
+        doors,
+        seats,
+        &budgets,
+        parts_bytes,
+        output,
+    )
 }
 
 /// Starts a node of a log, and serves connections to it without an end: a place is free again when its connection ends. As `node` it
