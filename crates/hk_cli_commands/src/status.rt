@@ -137,7 +137,7 @@ fn put_stream(status: &StreamStatus, out: &mut String) -> Result<(), AllocError>
 impl Printed for StreamStatus {
     ghost text = { spec.status_line };
 
-    fn print_to(&self, _alloc: Global, out: &mut String) -> Result<(), AllocError> {
+    fn put_lines(&self, _alloc: Global, out: &mut String) -> Result<(), AllocError> {
         put_stream(self, out)
     }
 }
