@@ -9,8 +9,8 @@ ghost use Rattle.hk_marks.specs.Steps.{extra_numbers};
 ghost use Rattle.hk_cli_commands.specs.Statuses as spec;
 
 use crate::output::Output;
-use crate::stop::Stop;
 use hk_cli_calls::OutputForm;
+use hk_cli_input::Stop;
 use hk_cli_json::{InJson, StreamLine};
 use hk_cli_lines::Printed;
 use hk_marks::Got;
