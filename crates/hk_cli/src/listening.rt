@@ -1,6 +1,7 @@
 //! Where a long-running node listens.
 
-use hk_cli_commands::{Output, Stop};
+use hk_cli_commands::Output;
+use hk_cli_input::Stop;
 use libc::types::rlimit;
 use mio::net::TcpListener as ManyListener;
 use std::alloc::Global;

@@ -21,7 +21,7 @@ pub(crate) enum Notice {
 impl Printed for Notice {
     ghost text = { λ notice. spec.notice_line notice };
 
-    fn print_to(&self, _alloc: Global, out: &mut String) -> Result<(), AllocError> {
+    fn put_lines(&self, _alloc: Global, out: &mut String) -> Result<(), AllocError> {
         match self {
             Notice::Listening(port) => writeln!(out, "listening {port}"),
             Notice::Feeding(port) => writeln!(out, "feeding {port}"),

@@ -5,7 +5,8 @@ ghost use Rattle.std.specs.Thread.{IsSync};
 
 use crate::head::{Grade, Heads};
 use hk_cli_calls::{Limits, NodePlace, OutputForm, Start};
-use hk_cli_commands::{Output, Stop};
+use hk_cli_commands::Output;
+use hk_cli_input::Stop;
 use hk_cli_reasons::{Origin, Place, RequestContext};
 use hk_cli_remote::{fetch_from, refusal_of};
 use hk_model::{Front, Told};

@@ -1,13 +1,12 @@
 //! The commands `at`, `ask`, `front` and `status`.
 
-ghost use Rattle.std.specs.Prelude.{◌≤◌, OnOk};
-ghost use Rattle.hk_cli_commands.specs.Absorbing.{Takes};
+ghost use Rattle.std.specs.Prelude.{◌≤◌};
+ghost use Rattle.hk_cli_commands.specs.Absorbing.{TakesAll};
 
-use crate::frames::{Sink, hand_items};
 use crate::output::Output;
 use crate::status::put_status;
-use crate::stop::Stop;
 use hk_cli_calls::OutputForm;
+use hk_cli_input::{Sink, Stop, hand_items};
 use hk_cli_reasons::{Origin, Place, RequestContext};
 use hk_log::Item;
 use hk_query::{Answer, Query, ask};
@@ -32,9 +31,9 @@ impl Absorber {
 }
 
 impl Sink for Absorber {
-    fn take(&mut self, item: Item) -> Result<(), Stop>
-        ensures { OnOk result (Takes self.old.state item self.new.state) }
-    {
+    ghost took = { λ start items now. TakesAll start.state items now.state };
+
+    fn take(&mut self, item: Item) -> Result<(), Stop> {
         let _took = self.state.absorb_owned(item)?;
         Ok(())
     }

@@ -3,7 +3,7 @@
 ghost use Rattle.std.specs.Prelude.{◌≤◌};
 
 use crate::output::Output;
-use crate::stop::Stop;
+use hk_cli_input::Stop;
 use hk_cli_reasons::{Known, LAST_NUMBER, known_of};
 use std::alloc::{AllocError, Global};
 use std::io::Write;

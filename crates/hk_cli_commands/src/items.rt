@@ -2,15 +2,16 @@
 
 ghost use Rattle.std.specs.Prelude.{◌≤◌};
 
-use crate::frames::{Sink, hand_items};
 use crate::output::Output;
-use crate::stop::Stop;
 use hk_cli_calls::OutputForm;
+use hk_cli_input::{Sink, Stop, hand_items};
 use hk_log::Item;
 use std::alloc::Global;
 use std::io::{Read, Write};
 
 impl<'a, W: Write, E: Write> Sink for Output<'a, W, E> {
+    ghost took = { λ _ _ _. Unit {0} };
+
     fn take(&mut self, item: Item) -> Result<(), Stop> {
         self.show(&item)
     }

@@ -3,9 +3,8 @@
 ghost use Rattle.std.specs.Prelude.{◌≤◌};
 
 use crate::output::Output;
-use crate::pieces::{Lines, read_lines};
-use crate::stop::Stop;
 use hk_cli_calls::OutputForm;
+use hk_cli_input::{Lines, Stop, read_lines};
 use hk_cli_json::{BadItem, item_of};
 use hk_codec::encode;
 use hk_types::Refusal;
@@ -96,6 +95,13 @@ impl<W: Write, E: Write> Framer<'_, W, E> {
         }
     }
 
+    /// Writes what was gathered.
+    fn send(&mut self) -> Result<(), Stop> {
+        self.output.send(&self.frames)?;
+        self.frames.clear();
+        Ok(())
+    }
+
     /// Writes the frames of the lines before, prints what is wrong with the one of this number, and stops.
     fn stop_of(&mut self, number: u64, fault: &LineFault) -> Stop {
         if let Err(stop) = self.output.send(&self.frames) {
@@ -110,7 +116,7 @@ impl<W: Write, E: Write> Framer<'_, W, E> {
 }
 
 impl<W: Write, E: Write> Lines for Framer<'_, W, E> {
-    const MOST_BYTES: usize = MOST_JSON_BYTES;
+    ghost took = { λ _ _ _. Unit {0} };
 
     /// Adds the frame of a line that is not empty, and writes what was gathered once that is much.
     fn line(&mut self, number: u64, line: &[u8]) -> Result<(), Stop> {
@@ -123,19 +129,22 @@ impl<W: Write, E: Write> Lines for Framer<'_, W, E> {
         if self.frames.len() < GATHERED_BYTES {
             return Ok(());
         }
-        self.end()
+        self.send()
     }
 
     fn long(&mut self, number: u64, _line: &[u8]) -> Result<(), Stop> {
         Err(self.stop_of(number, &LineFault::TooLong))
     }
+}
 
-    /// Writes what was gathered.
-    fn end(&mut self) -> Result<(), Stop> {
-        self.output.send(&self.frames)?;
-        self.frames.clear();
-        Ok(())
-    }
+/// Writes the frames of all lines of the input.
+fn send_all<I: Read, W: Write, E: Write>(
+    alloc: Global,
+    input: &mut I,
+    framer: &mut Framer<'_, W, E>,
+) -> Result<(), Stop> {
+    read_lines(alloc, input, MOST_JSON_BYTES, framer)?;
+    framer.send()
 }
 
 /// Writes the frame, of version 2, of the item on each line of JSON of the input, up to its end, and returns the status 0.
@@ -163,7 +172,7 @@ pub fn run_frames<I: Read, W: Write, E: Write>(
         frames: Vec::new(alloc),
         has_item: false,
     };
-    match read_lines(alloc, input, &mut framer) {
+    match send_all(alloc, input, &mut framer) {
         Ok(()) if framer.has_item => 0,
         Ok(()) => framer.output.stop(Stop::EmptyInput),
         Err(stop) => framer.output.stop(stop),

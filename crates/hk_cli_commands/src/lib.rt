@@ -1,5 +1,5 @@
 //! The commands that need no network, over any reader and writers: `at`, `ask`, `front`, `status`, `items`, `frames`,
-//! `rewrite`, `world` and `explain`, with what reads an input, prints lines and reports why a command stopped.
+//! `rewrite`, `world` and `explain`, with what prints lines and reports why a command stopped.
 #![tactic(auto)]
 
 mod ask;
@@ -7,29 +7,23 @@ mod asking;
 mod command;
 mod explain;
 mod flaw;
-mod frames;
 mod items;
 mod json;
 mod link_fault;
 mod output;
-mod pieces;
 mod rewrite;
 mod script;
 mod status;
-mod stop;
 mod words;
 mod world;
 
 pub use ask::{run_ask, run_at, run_front, run_status};
 pub use asking::{Asking, asking_of};
 pub use explain::run_explain;
-pub use frames::{Sink, hand_items, kind_at_head};
 pub use items::run_items;
 pub use json::run_frames;
-pub use link_fault::{LinkFault, Peer, is_nobody};
+pub use link_fault::is_nobody;
 pub use output::Output;
-pub use pieces::{Lines, MOST_READS, PIECE_BYTES, Pieces, read_lines, read_pieces};
 pub use rewrite::run_rewrite;
 pub use status::{Standing, StreamStatus, put_status, stream_status};
-pub use stop::Stop;
 pub use world::run_world;

@@ -1,46 +1,11 @@
 //! What a connection to a node fails by.
 
 use hk_cli_calls::NodePlace;
+use hk_cli_input::{LinkFault, Peer};
 use hk_cli_reasons::{Place, put_place};
-use hk_types::Refusal;
 use std::alloc::AllocError;
 use std::io;
 use std::io::ErrorKind;
-
-/// Who answered in the place of a node.
-#[derive(Clone, Copy)]
-pub enum Peer {
-    /// One that speaks HTTP.
-    Http,
-    /// One that speaks TLS, and raised an alert.
-    Tls,
-    /// One whose bytes are no frame.
-    Other,
-}
-
-/// What a connection to a node fails by.
-#[derive(Clone, Copy)]
-pub enum LinkFault {
-    /// It ended before the reply.
-    Cut,
-    /// No byte came, or none was taken, for so many seconds.
-    Late(u64),
-    /// What answers is no node; as a reply it has this fault.
-    NoNode(Peer, Refusal),
-    /// The node has another log than what it was sent, as far as the two are known.
-    OtherLog { sent: Option<u64>, own: Option<u64> },
-}
-
-impl LinkFault {
-    /// The refusal that is printed for it, where it has one.
-    pub(crate) fn refusal(&self) -> Option<Refusal> {
-        match self {
-            LinkFault::NoNode(_, why) => Some(*why),
-            LinkFault::OtherLog { .. } => Some(Refusal::ForeignLog),
-            _other => None,
-        }
-    }
-}
 
 /// Whether no connection to a place can be opened since nobody listens there, or a socket's file isn't there.
 pub fn is_nobody(place: NodePlace<'_>, error: &io::Error) -> bool {

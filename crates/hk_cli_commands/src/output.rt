@@ -4,10 +4,10 @@ ghost use Rattle.std.specs.Prelude.{◌≡◌, ◌≤◌};
 
 use crate::flaw::{Flaw, put_bad_line};
 use crate::json::{LineFault, put_bad_item};
-use crate::link_fault::{LinkFault, put_fault, put_node, put_unconnected};
+use crate::link_fault::{put_fault, put_node, put_unconnected};
 use crate::status::put_streams;
-use crate::stop::Stop;
 use hk_cli_calls::{NodePlace, OutputForm};
+use hk_cli_input::{LinkFault, Stop};
 use hk_cli_json::InJson;
 use hk_cli_lines::Printed;
 use hk_cli_reasons::{Origin, Place, RequestContext, put_known, put_reason};

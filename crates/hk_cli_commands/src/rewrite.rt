@@ -1,11 +1,10 @@
 //! The command `rewrite`.
 
-ghost use Rattle.std.specs.Prelude.{◌≤◌};
+ghost use Rattle.std.specs.Prelude.{◌≡◌, ◌≤◌, ◌++◌};
 
 use crate::output::Output;
-use crate::pieces::{Pieces, read_pieces};
-use crate::stop::Stop;
 use hk_cli_calls::OutputForm;
+use hk_cli_input::{Pieces, Stop, read_pieces};
 use hk_codec::rewrite;
 use std::alloc::Global;
 use std::io::{Read, Write};
@@ -39,12 +38,10 @@ struct Whole {
 }
 
 impl Pieces for Whole {
+    ghost took = { λ start bytes now. now.bytes.items ≡ start.bytes.items ++ bytes };
+
     fn take(&mut self, piece: &[u8]) -> Result<(), Stop> {
         self.bytes.extend_from_slice(piece)?;
-        Ok(())
-    }
-
-    fn end(&mut self) -> Result<(), Stop> {
         Ok(())
     }
 }

@@ -36,10 +36,10 @@ impl Reply {
 impl Printed for Reply {
     ghost text = { λ reply. spec.reply_lines reply };
 
-    fn print_to(&self, alloc: Global, out: &mut String) -> Result<(), AllocError> {
+    fn put_lines(&self, alloc: Global, out: &mut String) -> Result<(), AllocError> {
         match self {
             Reply::Begun { slot, at } => writeln!(out, "begun {slot} at {at}"),
-            Reply::Told(outcome) => outcome.print_to(alloc, out),
+            Reply::Told(outcome) => outcome.put_lines(alloc, out),
         }
     }
 }

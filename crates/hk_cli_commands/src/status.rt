@@ -9,8 +9,8 @@ ghost use Rattle.hk_marks.specs.Steps.{extra_numbers};
 ghost use Rattle.hk_cli_commands.specs.Statuses as spec;
 
 use crate::output::Output;
-use crate::stop::Stop;
 use hk_cli_calls::OutputForm;
+use hk_cli_input::Stop;
 use hk_cli_json::{InJson, StreamLine};
 use hk_cli_lines::Printed;
 use hk_marks::Got;
@@ -137,7 +137,7 @@ fn put_stream(status: &StreamStatus, out: &mut String) -> Result<(), AllocError>
 impl Printed for StreamStatus {
     ghost text = { spec.status_line };
 
-    fn print_to(&self, _alloc: Global, out: &mut String) -> Result<(), AllocError> {
+    fn put_lines(&self, _alloc: Global, out: &mut String) -> Result<(), AllocError> {
         put_stream(self, out)
     }
 }

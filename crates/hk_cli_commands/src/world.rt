@@ -5,10 +5,9 @@ ghost use Rattle.std.specs.Prelude.{◌≤◌};
 use crate::command::{asked_of, command_of, opening_of};
 use crate::flaw::{Flaw, MOST_LINE_BYTES};
 use crate::output::Output;
-use crate::pieces::{Lines, PIECE_BYTES, read_lines};
 use crate::script::{Reply, Script};
-use crate::stop::Stop;
 use crate::words::Unread;
+use hk_cli_input::{Lines, PIECE_BYTES, Stop, read_lines};
 use hk_cli_reasons::{Origin, Place, RequestContext};
 use hk_codec::encode;
 use hk_log::Item;
@@ -82,7 +81,7 @@ fn opened(alloc: Global, line: &str) -> Result<Script, Unread> {
 }
 
 impl<W: Write, E: Write> Lines for Player<'_, W, E> {
-    const MOST_BYTES: usize = MOST_LINE_BYTES;
+    ghost took = { λ _ _ _. Unit {0} };
 
     /// Runs the command of a line that is not empty, and prints the reply.
     fn line(&mut self, number: u64, line: &[u8]) -> Result<(), Stop> {
@@ -101,10 +100,6 @@ impl<W: Write, E: Write> Lines for Player<'_, W, E> {
     }
 
     fn ready(&mut self) -> Result<(), Stop> {
-        self.output.flush()
-    }
-
-    fn end(&mut self) -> Result<(), Stop> {
         self.output.flush()
     }
 }
@@ -139,7 +134,8 @@ fn play_and_keep<I: Read, F: Write, W: Write, E: Write>(
     items: Option<&mut F>,
 ) -> Result<bool, Stop> {
     let alloc = player.alloc;
-    read_lines(alloc, input, player)?;
+    read_lines(alloc, input, MOST_LINE_BYTES, player)?;
+    player.output.flush()?;
     let Some(script) = &player.script else {
         return Ok(false);
     };

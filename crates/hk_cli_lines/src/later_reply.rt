@@ -138,13 +138,13 @@ fn put_ready(horizon: Time, readable: Time, out: &mut String) -> Result<(), Allo
 impl Printed for LaterReply {
     ghost text = { λ reply. spec.reply_lines (reply_seen reply) };
 
-    fn print_to(&self, alloc: Global, out: &mut String) -> Result<(), AllocError> {
+    fn put_lines(&self, alloc: Global, out: &mut String) -> Result<(), AllocError> {
         match self {
             LaterReply::Done { ops } => writeln!(out, "done {ops}"),
             LaterReply::Streams(told) => put_streams(told, out),
             LaterReply::Latest { t, answer } => {
                 writeln!(out, "latest {t}")?;
-                answer.print_to(alloc, out)
+                answer.put_lines(alloc, out)
             }
             LaterReply::Page(page) => put_page(alloc, page, out),
             LaterReply::Part { facts, left } => {
@@ -162,7 +162,7 @@ impl Printed for LaterReply {
             LaterReply::Ready { horizon, readable } => put_ready(*horizon, *readable, out),
             LaterReply::Stats(metrics) => put_stats(metrics, out),
             LaterReply::Tables(tables) => put_tables(tables, out),
-            LaterReply::Refused(refusal) => refusal.print_to(alloc, out),
+            LaterReply::Refused(refusal) => refusal.put_lines(alloc, out),
         }
     }
 }

@@ -1,6 +1,6 @@
 //! The lines that are printed.
 
-ghost use Rattle.std.specs.Prelude.{◌≡◌, ◌++◌, ℕ, List, IfOk, OnOk};
+ghost use Rattle.std.specs.Prelude.{◌≡◌, ◌++◌, ℕ, List, IfOk, OnOk, OnErr};
 ghost use Rattle.std.specs.List.{flat_map};
 ghost use Rattle.std.specs.String.{string_bytes};
 ghost use Rattle.hk_model.specs.Replica.Answers.{answer_seen};
@@ -18,10 +18,28 @@ use std::alloc::{AllocError, Global};
 pub trait Printed {
     ghost text: { Self → List ℕ };
 
-    /// Adds the lines at the end of the text. The only error is out of memory; then nothing is promised of the text, so
-    /// what has to stay is kept in another one, as `line_of` does. Cost: O(n), n bytes of the lines.
-    fn print_to(&self, alloc: Global, out: &mut String) -> Result<(), AllocError>
+    /// Adds the lines at the end of the text. The only error is out of memory; then nothing is promised of the text, also not
+    /// of what stood in it. It is what a type defines, and what `print_to` and `line_of` call. Cost: O(n), n bytes of the lines.
+    fn put_lines(&self, alloc: Global, out: &mut String) -> Result<(), AllocError>
         ensures { OnOk result (string_bytes out.new ≡ string_bytes out.old ++ text self.now) };
+
+    /// Adds the lines at the end of the text, all of them or none. The only error is out of memory; then the text is as it
+    /// was. Cost: O(n), n bytes of the lines; they are copied where something stands in the text.
+    final fn print_to(&self, alloc: Global, out: &mut String) -> Result<(), AllocError>
+        ensures added { OnOk result (string_bytes out.new ≡ string_bytes out.old ++ text self.now) }
+        ensures kept { OnErr result (string_bytes out.new ≡ string_bytes out.old) }
+    {
+        if !out.as_bytes().is_empty() {
+            let mut lines = String::new(alloc);
+            self.put_lines(alloc, &mut lines)?;
+            return out.push_str(&lines);
+        }
+        let put = self.put_lines(alloc, out);
+        if put.is_err() {
+            out.clear();
+        }
+        put
+    }
 }
 
 /// The lines of a value, each with its line feed. The only error is out of memory. Cost: O(n), n bytes of the lines.
@@ -29,7 +47,7 @@ pub fn line_of<T: Printed>(alloc: Global, value: &T) -> Result<String, AllocErro
     ensures { IfOk result (λ line. string_bytes line ≡ T.text value.now) }
 {
     let mut line = String::new(alloc);
-    value.print_to(alloc, &mut line)?;
+    value.put_lines(alloc, &mut line)?;
     Ok(line)
 }
 
@@ -64,7 +82,7 @@ pub(crate) fn put_rows(
 impl Printed for Answer {
     ghost text = { λ answer. spec.answer_lines (answer_seen answer) };
 
-    fn print_to(&self, alloc: Global, out: &mut String) -> Result<(), AllocError> {
+    fn put_lines(&self, alloc: Global, out: &mut String) -> Result<(), AllocError> {
         match self {
             Answer::One(None) => writeln!(out, "none"),
             Answer::One(Some(row)) => {
@@ -104,7 +122,7 @@ fn put_fields(refusal: &Refusal, out: &mut String) -> Result<(), AllocError>
 impl Printed for Refusal {
     ghost text = { spec.refusal_line };
 
-    fn print_to(&self, _alloc: Global, out: &mut String) -> Result<(), AllocError> {
+    fn put_lines(&self, _alloc: Global, out: &mut String) -> Result<(), AllocError> {
         let number = self.number();
         write!(out, "refused {number}")?;
         put_fields(self, out)?;
@@ -154,7 +172,7 @@ fn put_mark(mark: &Mark, out: &mut String) -> Result<(), AllocError>
 impl Printed for Item {
     ghost text = { spec.item_line };
 
-    fn print_to(&self, _alloc: Global, out: &mut String) -> Result<(), AllocError> {
+    fn put_lines(&self, _alloc: Global, out: &mut String) -> Result<(), AllocError> {
         match self {
             Item::Commit(entry) => put_entry(entry, out),
             Item::Closed(mark) => put_mark(mark, out),
@@ -182,7 +200,7 @@ pub(crate) fn put_front(front: Front, out: &mut String) -> Result<(), AllocError
 impl Printed for Told {
     ghost text = { λ outcome. spec.outcome_lines (told_seen outcome) };
 
-    fn print_to(&self, alloc: Global, out: &mut String) -> Result<(), AllocError> {
+    fn put_lines(&self, alloc: Global, out: &mut String) -> Result<(), AllocError> {
         match self {
             Told::Committed(None) => writeln!(out, "committed none"),
             Told::Committed(Some(time)) => writeln!(out, "committed {time}"),
@@ -190,9 +208,9 @@ impl Printed for Told {
             Told::Took(Took::Taken) => writeln!(out, "taken"),
             Told::Took(Took::Repeated) => writeln!(out, "repeated"),
             Told::Done => writeln!(out, "ok"),
-            Told::Answered(answer) => answer.print_to(alloc, out),
+            Told::Answered(answer) => answer.put_lines(alloc, out),
             Told::Fronted(front) => put_front(*front, out),
-            Told::Refused(refusal) => refusal.print_to(alloc, out),
+            Told::Refused(refusal) => refusal.put_lines(alloc, out),
         }
     }
 }

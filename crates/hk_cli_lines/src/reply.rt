@@ -19,7 +19,7 @@ fn put_part(base: Time, horizon: Time, facts: usize, out: &mut String) -> Result
 impl Printed for Reply {
     ghost text = { λ reply. spec.reply_lines (reply_seen reply) };
 
-    fn print_to(&self, alloc: Global, out: &mut String) -> Result<(), AllocError> {
+    fn put_lines(&self, alloc: Global, out: &mut String) -> Result<(), AllocError> {
         match self {
             Reply::Done { ops } => writeln!(out, "done {ops}"),
             Reply::Front(front) => put_front(*front, out),
@@ -27,9 +27,9 @@ impl Printed for Reply {
                 let facts = fragment.facts().len();
                 put_part(fragment.base(), fragment.horizon(), facts, out)
             }
-            Reply::Answer(answer) => answer.print_to(alloc, out),
-            Reply::Refused(refusal) => refusal.print_to(alloc, out),
-            Reply::Later(later) => later.print_to(alloc, out),
+            Reply::Answer(answer) => answer.put_lines(alloc, out),
+            Reply::Refused(refusal) => refusal.put_lines(alloc, out),
+            Reply::Later(later) => later.put_lines(alloc, out),
         }
     }
 }

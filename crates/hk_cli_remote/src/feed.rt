@@ -1,7 +1,8 @@
 //! Item frames in batches: `feed`.
 
 use crate::link::{Link, unasked};
-use hk_cli_commands::{Output, Sink, Stop, hand_items};
+use hk_cli_commands::Output;
+use hk_cli_input::{Sink, Stop, hand_items};
 use hk_codec::frame_len;
 use hk_log::Item;
 use hk_types::Refusal;
@@ -124,6 +125,8 @@ impl<'a, 'l> Batches<'a, 'l> {
 }
 
 impl Sink for Batches<'_, '_> {
+    ghost took = { λ _ _ _. Unit {0} };
+
     fn take(&mut self, item: Item) -> Result<(), Stop> {
         self.bytes = self.bytes.saturating_add(frame_len(&item) as u64);
         if self.items.push(item).is_err() {

@@ -3,7 +3,7 @@
 use crate::progress::Progress;
 use crate::stream::Stream;
 use hk_cli_calls::Limits;
-use hk_cli_commands::{LinkFault, MOST_READS, PIECE_BYTES, Peer, Stop};
+use hk_cli_input::{LinkFault, MOST_READS, PIECE_BYTES, Peer, Stop};
 use hk_cli_reasons::{Origin, Place, RequestContext};
 use hk_fragment::Fragment;
 use hk_log::Item;

@@ -2,7 +2,8 @@
 
 use crate::link::{Link, unasked};
 use hk_cli_calls::OutputForm;
-use hk_cli_commands::{Output, Stop};
+use hk_cli_commands::Output;
+use hk_cli_input::Stop;
 use hk_cli_json::{MetricLine, TableLine};
 use hk_cli_lines::metric_word;
 use hk_types::{FormFault, Refusal, Table};

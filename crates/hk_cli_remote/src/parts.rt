@@ -1,7 +1,7 @@
 //! Fragments that go in chunks, where a message has no room for them.
 
 use crate::link::{Link, unasked};
-use hk_cli_commands::Stop;
+use hk_cli_input::Stop;
 use hk_log::Version;
 use hk_types::{FormFault, Refusal, Time, VersionKey};
 use hk_values::FragmentHead;

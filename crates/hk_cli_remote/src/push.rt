@@ -1,7 +1,8 @@
 //! Requests as bytes: `push` and `load`.
 
 use crate::link::{Link, asked_of, refusal_of};
-use hk_cli_commands::{Output, Pieces, Stop, kind_at_head, read_pieces};
+use hk_cli_commands::Output;
+use hk_cli_input::{Pieces, Stop, kind_at_head, read_pieces};
 use hk_cli_reasons::RequestContext;
 use hk_types::{FormFault, Refusal};
 use hk_wire::{LaterRequest, Reply, Request, RequestFeeder};
@@ -144,6 +145,13 @@ impl<'k, 'l, 'o, 'p, W: Write, E: Write, const LATEST: u8> Pusher<'k, 'l, 'o, 'p
         }
     }
 
+    /// Ends the input: a request that is cut off, or that nothing came, stops the command.
+    fn finish(&mut self) -> Result<(), Stop> {
+        let feeder = mem::replace(&mut self.feeder, RequestFeeder::new(self.link.alloc()));
+        self.checked(feeder.finish())?;
+        self.filled()
+    }
+
     /// Where nothing came and the input is to give a fragment, that it is empty.
     fn filled(&self) -> Result<(), Stop> {
         if self.kind == 0 && matches!(self.accepted, Accepted::Fragments) {
@@ -154,6 +162,8 @@ impl<'k, 'l, 'o, 'p, W: Write, E: Write, const LATEST: u8> Pusher<'k, 'l, 'o, 'p
 }
 
 impl<W: Write, E: Write, const LATEST: u8> Pieces for Pusher<'_, '_, '_, '_, W, E, LATEST> {
+    ghost took = { λ _ _ _. Unit {0} };
+
     fn take(&mut self, piece: &[u8]) -> Result<(), Stop> {
         if self.kind == 0 {
             self.kind = kind_at_head(piece);
@@ -162,12 +172,6 @@ impl<W: Write, E: Write, const LATEST: u8> Pieces for Pusher<'_, '_, '_, '_, W, 
         self.ask_all()?;
         self.requests.clear();
         self.checked(fed)
-    }
-
-    fn end(&mut self) -> Result<(), Stop> {
-        let feeder = mem::replace(&mut self.feeder, RequestFeeder::new(self.link.alloc()));
-        self.checked(feeder.finish())?;
-        self.filled()
     }
 }
 
@@ -183,5 +187,6 @@ pub(crate) fn push_all<I: Read, W: Write, E: Write, const LATEST: u8>(
     let alloc = link.alloc();
     let mut pusher: Pusher<'_, '_, '_, '_, W, E, LATEST> = Pusher::new(link, output, accepted);
     read_pieces(alloc, input, &mut pusher)?;
+    pusher.finish()?;
     Ok(pusher.is_refused)
 }

@@ -3,7 +3,8 @@
 use crate::link::{Link, unasked};
 use crate::parts::{Parts, hand_parts, is_too_long, taking};
 use hk_cli_calls::OutputForm;
-use hk_cli_commands::{Output, Stop, put_status};
+use hk_cli_commands::{Output, put_status};
+use hk_cli_input::Stop;
 use hk_cli_json::FragmentSummary;
 use hk_cli_reasons::RequestContext;
 use hk_fragment::Fragment;

@@ -4,7 +4,8 @@ use crate::link::Link;
 use crate::read::{answer_at, tell_front, tell_status};
 use crate::table::put_table;
 use hk_cli_calls::Bodies;
-use hk_cli_commands::{Asking, Lines, Output, Stop, asking_of, read_lines};
+use hk_cli_commands::{Asking, Output, asking_of};
+use hk_cli_input::{Lines, Stop, read_lines};
 use hk_cli_reasons::Origin;
 use hk_model::{Answer, Query};
 use hk_types::{Refusal, Time};
@@ -124,7 +125,7 @@ fn asked(line: &[u8]) -> Option<Asking> {
 }
 
 impl<W: Write, E: Write> Lines for Shell<'_, '_, '_, '_, W, E> {
-    const MOST_BYTES: usize = MOST_LINE_BYTES;
+    ghost took = { λ _ _ _. Unit {0} };
 
     /// Answers a line.
     fn line(&mut self, number: u64, line: &[u8]) -> Result<(), Stop> {
@@ -151,10 +152,6 @@ impl<W: Write, E: Write> Lines for Shell<'_, '_, '_, '_, W, E> {
         }
         Ok(())
     }
-
-    fn end(&mut self) -> Result<(), Stop> {
-        Ok(())
-    }
 }
 
 /// Answers the lines of the input from the node, up to its end or `quit`, and returns whether one was refused or had no form.
@@ -168,7 +165,7 @@ pub(crate) fn answer_lines<I: Read, W: Write, E: Write>(
     let alloc = link.alloc();
     let mut shell = Shell::new(link, output, is_terminal, bodies);
     shell.greet()?;
-    match read_lines(alloc, input, &mut shell) {
+    match read_lines(alloc, input, MOST_LINE_BYTES, &mut shell) {
         Ok(()) | Err(Stop::Quit) => Ok(shell.is_refused),
         Err(stop) => Err(stop),
     }

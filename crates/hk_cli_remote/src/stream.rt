@@ -3,7 +3,8 @@
 ghost use Rattle.std.specs.Io.{ReadsAtMost};
 
 use hk_cli_calls::{Limits, NodePlace};
-use hk_cli_commands::{Output, Stop, is_nobody};
+use hk_cli_commands::{Output, is_nobody};
+use hk_cli_input::Stop;
 use std::io::{Read, Write};
 use std::net::{Ipv4Addr, Net, TcpListener, TcpStream};
 use std::os::unix::net::UnixStream;

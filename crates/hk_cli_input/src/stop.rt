@@ -2,12 +2,46 @@
 
 ghost use Rattle.std.specs.Prelude.{◌≡◌};
 ghost use Rattle.hk_types.specs.declared.faults.Refusal.TheVariants.{Form, Memory};
-ghost use Rattle.hk_cli_commands.specs.declared.stop.Stop.TheVariants.{Refused};
+ghost use Rattle.hk_cli_input.specs.declared.stop.Stop.TheVariants.{Refused};
 
-use crate::link_fault::LinkFault;
 use hk_cli_reasons::{Origin, Place};
 use hk_types::{FormFault, Refusal};
 use std::alloc::AllocError;
+
+/// Who answered in the place of a node.
+#[derive(Clone, Copy)]
+pub enum Peer {
+    /// One that speaks HTTP.
+    Http,
+    /// One that speaks TLS, and raised an alert.
+    Tls,
+    /// One whose bytes are no frame.
+    Other,
+}
+
+/// What a connection to a node fails by.
+#[derive(Clone, Copy)]
+pub enum LinkFault {
+    /// It ended before the reply.
+    Cut,
+    /// No byte came, or none was taken, for so many seconds.
+    Late(u64),
+    /// What answers is no node; as a reply it has this fault.
+    NoNode(Peer, Refusal),
+    /// The node has another log than what it was sent, as far as the two are known.
+    OtherLog { sent: Option<u64>, own: Option<u64> },
+}
+
+impl LinkFault {
+    /// The refusal that is printed for it, where it has one.
+    pub fn refusal(&self) -> Option<Refusal> {
+        match self {
+            LinkFault::NoNode(_, why) => Some(*why),
+            LinkFault::OtherLog { .. } => Some(Refusal::ForeignLog),
+            _other => None,
+        }
+    }
+}
 
 /// Why a command stops.
 #[derive(Clone, Copy)]
@@ -66,7 +100,7 @@ impl From<AllocError> for Stop {
 
 impl Stop {
     /// The number of what failed, where that is a device or a connection.
-    pub(crate) fn device_number(&self) -> u8 {
+    pub fn device_number(&self) -> u8 {
         match self {
             Stop::Link(LinkFault::Cut, _) => 1,
             Stop::SendFault => 92,

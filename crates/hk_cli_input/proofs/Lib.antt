@@ -1,0 +1,3 @@
+mod Took
+mod LineSteps
+mod ItemSteps

@@ -1,0 +1,9 @@
+use Rattle.std.proofs.Common.{ℕ, List, ◌<◌, length}
+use Rattle.std.specs.Io.KnownBytes.{Consumes}
+use Rattle.hk_cli_input.specs.Taking.{TookMore}
+use Rattle.hk_cli_input.proofs.pieces.read_pieces.Given as goal
+
+abbrev pub invariant-loop : goal.invariant-loop
+invariant-loop g l =
+    (0 < length l.piece) × (bytes : List ℕ) × Consumes (g.I.Read.remaining l.fn.input) (g.I.Read.remaining l.input) bytes
+    × TookMore g.P.Pieces.took l.fn.pieces l.pieces bytes

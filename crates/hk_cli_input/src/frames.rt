@@ -1,0 +1,136 @@
+//! Reading item frames.
+
+ghost use Rattle.std.specs.Prelude.{◌≡◌, List, [], ◌∷◌, is_ok, OnOk, OnErr};
+ghost use Rattle.hk_log.specs.declared.item.Item.{Item};
+ghost use Rattle.hk_cli_input.specs.Taking.{TookMore, TookFront, TookNone, Gave, GaveAll};
+ghost use Rattle.hk_cli_input.specs.Items.{TookItems, TookFirstItems, GoesOn, BreaksOff};
+
+use crate::pieces::{MOST_READS, new_piece, read_next};
+use crate::stop::Stop;
+use hk_cli_reasons::{Origin, Place, RequestContext};
+use hk_codec::{Feeder, pieces_join};
+use hk_log::Item;
+use hk_types::Refusal;
+use std::alloc::Global;
+use std::io::Read;
+
+/// What receives the items of an input, one after the other.
+pub trait Sink {
+    ghost took: { Self → List Item → Self → Type 0 };
+
+    /// Receives the next item, or returns what stops the command; then it did not take the item.
+    fn take(&mut self, item: Item) -> Result<(), Stop>
+        ensures ok { OnOk result (TookMore took self.old self.new (item ∷ [])) }
+        ensures err { OnErr result (TookNone took self.old self.new) };
+}
+
+/// The kind of the first frame of an input, by its first bytes; 0 where they don't reach so far.
+pub fn kind_at_head(piece: &[u8]) -> u8 {
+    match piece.get(5) {
+        Some(kind) => *kind,
+        None => 0,
+    }
+}
+
+/// What was asked where the first frame of an input has this kind, and is no item.
+fn asked_at_head(kind: u8) -> RequestContext {
+    match kind {
+        16..=23 | 48..=58 => RequestContext::RequestsAsItems,
+        _other => RequestContext::Nothing,
+    }
+}
+
+/// What was asked where an item is to be applied.
+fn asked_of(item: &Item) -> RequestContext {
+    let (log, stream) = match item {
+        Item::Commit(entry) => (entry.log(), entry.stream()),
+        Item::Closed(mark) => (mark.log(), mark.stream()),
+    };
+    RequestContext::Item { log, stream }
+}
+
+/// The origin of an item that comes after so many frames.
+fn origin_of(frames: u64, asked: RequestContext) -> Origin {
+    let place = Place::Frame(frames.saturating_add(1));
+    Origin { place, asked }
+}
+
+/// Passes items to the sink, and counts those that it accepted.
+fn take_all<S: Sink>(items: Vec<Item>, sink: &mut S, frames: &mut u64) -> Result<(), Stop>
+    ensures ok { OnOk result (TookMore S.took sink.old sink.new items.items) }
+    ensures err { OnErr result (TookFront S.took sink.old sink.new items.items) }
+{
+    for item in items {
+        let asked = asked_of(&item);
+        if let Err(stop) = sink.take(item) {
+            return Err(stop.at(origin_of(*frames, asked)));
+        }
+        *frames = frames.saturating_add(1);
+    }
+    Ok(())
+}
+
+/// What an answer of a feeder stops, behind so many frames of an input whose first has this kind.
+fn checked(fed: Result<(), Refusal>, frames: u64, kind: u8) -> Result<(), Stop>
+    ensures { is_ok result ≡ is_ok fed }
+{
+    match fed {
+        Ok(()) => Ok(()),
+        Err(why) if frames == 0 => Err(Stop::RefusedAt(why, origin_of(0, asked_at_head(kind)))),
+        Err(why) => Err(Stop::RefusedAt(why, origin_of(frames, RequestContext::Nothing))),
+    }
+}
+
+/// Where a reading of frames is.
+#[derive(Drop)]
+struct Position {
+    /// How many frames' items the sink accepted.
+    count: u64,
+    /// The kind of the first frame, once it is there.
+    kind: u8,
+}
+
+/// Hands on the items that a piece completes.
+fn take_piece<S: Sink>(
+    alloc: Global,
+    feeder: &mut Feeder,
+    at: &mut Position,
+    sink: &mut S,
+    piece: &[u8],
+) -> Result<(), Stop>
+    ensures ok { OnOk result (GoesOn S.took sink.old sink.new feeder.old feeder.new piece.now) }
+    ensures err { OnErr result (BreaksOff S.took sink.old sink.new feeder.old piece.now) }
+{
+    pieces_join();
+    if at.kind == 0 {
+        at.kind = kind_at_head(piece);
+    }
+    let mut items = Vec::new(alloc);
+    let fed = feeder.feed(piece, &mut items);
+    take_all(items, sink, &mut at.count)?;
+    checked(fed, at.count, at.kind)
+}
+
+/// Passes the items of the input to the sink in their order, up to the end, or to what stops them first: the sink, a
+/// fault of the input, or a read. Cost: O(n), n bytes of the input, and that of the sink.
+pub fn hand_items<I: Read, S: Sink>(alloc: Global, input: &mut I, sink: &mut S) -> Result<(), Stop>
+    // The sink took the items that all bytes encode, in their order.
+    ensures all { OnOk result (GaveAll I.remaining input.old input.new
+        (TookItems S.took sink.old sink.new)) }
+    // It took the first of them.
+    ensures part { OnErr result (Gave I.remaining input.old input.new
+        (TookFirstItems S.took sink.old sink.new)) }
+{
+    let mut room = new_piece(alloc)?;
+    let piece = room.as_mut_slice();
+    let mut feeder = Feeder::new(alloc);
+    let mut at = Position { count: 0, kind: 0 };
+    for _ in 0..MOST_READS {
+        let count = read_next(input, piece)?;
+        if count == 0 {
+            return checked(feeder.finish(), at.count, at.kind);
+        }
+        take_piece(alloc, &mut feeder, &mut at, sink, &piece[..count])?;
+    }
+    Err(Stop::ReadFault)
+}
