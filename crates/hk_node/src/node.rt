@@ -73,7 +73,7 @@ pub fn start<J: NodeName, R: Wait + Drop>(
 /// what is true, are joined.
 ///
 /// Cost: each call has its own, beside O(p), p reader slots. A change is made on one copy at once, and on the other
-/// one by the next change, which pays for both, or before that by `settle`.
+/// one by the next change, which pays for both.
 #[derive(Drop)]
 pub struct Node<J: NodeName, R: Wait + Drop> {
     publisher: Mutex<Publisher<J, R>>,
@@ -223,14 +223,5 @@ impl<J: NodeName, R: Wait + Drop> Node<J, R> {
     {
         let mut publisher = self.publisher.lock(rt);
         publish_waiting(&mut *publisher)
-    }
-
-    /// Has both copies of the replica hold the same, so that the next change pays for itself alone. A caller that has nothing else to do
-    /// makes it after a change that took long; it changes nothing that can be asked, and publishes nothing that waits. Where memory
-    /// runs out for it, or something waits, the next change does it. It waits for the lock, and for the readers that still read the
-    /// older copy. Cost: that of the last operation, once, and O(p), p reader slots.
-    pub fn settle<W: Wait>(&self, rt: &W) {
-        let mut publisher = self.publisher.lock(rt);
-        publisher.settle();
     }
 }

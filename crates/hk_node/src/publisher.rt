@@ -243,18 +243,6 @@ impl<J: NodeName, R: Wait + Drop> Publisher<J, R> {
         publish_all(&mut self.copies.writer, &mut self.late, &self.copies.rt)
     }
 
-    /// Has the copy that readers left take what the other one has, so that the next change pays for itself alone; where something
-    /// waits, or memory runs out, the next change does it. It waits for the readers that still read that copy. Cost: that of the
-    /// last operation, once.
-    pub fn settle(&mut self)
-        ensures lists { self.new ≡ self.old }
-    {
-        if self.late.is_some() || self.copies.writer.has_pending_operations() {
-            return;
-        }
-        let _settled = replace_with(&mut self.copies.writer, &self.copies.rt, show::<R>);
-    }
-
     /// What readers read now.
     pub(crate) fn published(&self) -> &Replica
         ensures body { result.now.body ≡ replay self.now.0 }

@@ -13,9 +13,6 @@ use std::alloc::Global;
 use std::rt::Clock;
 use std::sync::Wait;
 
-/// From how many milliseconds on a turn that changes the node has its second copy catch up.
-const LONG_CHANGE: u64 = 20;
-
 /// The sockets that a worker waits for, who is notified, and its connections.
 #[derive(Drop)]
 pub(crate) struct Reactor<'w, 'd, R: Wait + Clock + 'w, const LATEST: u8> {
@@ -60,22 +57,6 @@ impl<'w, 'd, R: Wait + Clock + 'w, const LATEST: u8> Reactor<'w, 'd, R, LATEST> 
             self.worker.waiting.remove(token, awaited);
         }
         link.is_cut
-    }
-
-    /// Notes a turn that changed the node since then: where it took long, the node's second copy is to catch up.
-    pub(crate) fn note_change(&mut self, began: u64) {
-        if self.staff.is_at_long_end(self.worker.number) {
-            self.look_at_clock();
-            let took = self.worker.now.saturating_sub(began);
-            self.worker.has_to_settle = self.worker.has_to_settle || took >= LONG_CHANGE;
-        }
-    }
-
-    /// Whether the node's second copy is to catch up now, since nobody waits for a turn.
-    pub(crate) fn takes_settling(&mut self) -> bool {
-        let settles = self.worker.has_to_settle && !self.worker.links.has_listed();
-        self.worker.has_to_settle = self.worker.has_to_settle && !settles;
-        settles
     }
 
     /// Ends a connection: its socket is closed, and its slot is free.

@@ -92,11 +92,7 @@ impl<
         let Some(seat) = self.seat.take() else {
             return Turn::Over;
         };
-        let seen = seat.seen();
         let (turn, seat) = self.turn_on(door, moment, link, seat);
-        if seen < seat.seen() {
-            self.reactor.note_change(moment.now);
-        }
         self.seat = Some(seat);
         turn
     }
@@ -228,23 +224,6 @@ impl<
         }
     }
 
-    /// Has the second copy of the node catch up with a change that took long, once nobody waits for a turn: the next change, of whomever,
-    /// would pay for both copies.
-    fn catch_up(&mut self) {
-        if !self.reactor.takes_settling() {
-            return;
-        }
-        for door in &self.shop.doors {
-            match door.way {
-                Way::Open(node) | Way::Feeding(node) => {
-                    node.settle(self.reactor.rt);
-                    return;
-                }
-                Way::Reading => {}
-            }
-        }
-    }
-
     /// One round: what the system said, what others left, who waited long enough, and the turns of those that can go on.
     fn round(&mut self, events: &Events) {
         self.reactor.look_at_clock();
@@ -255,7 +234,6 @@ impl<
         self.reactor.worker.wake_due(staff.bell.readable());
         self.reactor.worker.look_at_limits(&staff.limits);
         self.take_turns();
-        self.catch_up();
     }
 }
 

@@ -285,9 +285,6 @@ fn serve_in<
 /// for long answers, whose seat first catches up with the other one, and stays there. So what a long answer holds up are other
 /// connections that ask for something long, and what a change holds up are those of its worker.
 ///
-/// Once the replies to a change that took 20 milliseconds and more are written, its worker has the node's second copy catch up with it
-/// (`Node::settle`), so that the next change doesn't pay for that.
-///
 /// A connection is read, and its next request answered, only while at most 65,536 bytes of its replies stand unwritten. It is answered in
 /// version 1, or where `in_both` says so in both versions. Connections keep at most as many bytes as the budgets of their doors
 /// have. When a

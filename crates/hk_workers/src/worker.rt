@@ -36,8 +36,6 @@ pub(crate) struct Worker<'d, const LATEST: u8> {
     pub(crate) is_timed: bool,
     /// Whether a connection with many pins ended in this round.
     pub(crate) has_freed: bool,
-    /// Whether the node's second copy is to catch up with a change that took long.
-    pub(crate) has_to_settle: bool,
 }
 
 impl<'d, const LATEST: u8> Worker<'d, LATEST> {
@@ -55,7 +53,6 @@ impl<'d, const LATEST: u8> Worker<'d, LATEST> {
             look: 0,
             is_timed: false,
             has_freed: false,
-            has_to_settle: false,
         }
     }
 

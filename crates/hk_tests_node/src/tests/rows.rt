@@ -143,13 +143,11 @@ impl<J: NodeName, S: Wait + Drop> Game<J, S> {
         }
     }
 
-    /// Publishes, and applies the receipt to the seat. That both copies settle before and after it changes nothing that is told.
+    /// Publishes, and applies the receipt to the seat.
     fn publish<R: Wait>(&mut self, rt: &R) -> Tells {
-        self.node.settle(rt);
         refuse(self.alloc, self.number);
         let published = self.node.publish(rt);
         refuse(self.alloc, 0);
-        self.node.settle(rt);
         match published {
             Ok(receipt) => {
                 let ops = receipt.ops();
