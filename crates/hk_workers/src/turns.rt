@@ -371,7 +371,7 @@ impl<'d, const LATEST: u8> Link<'d, LATEST> {
         self.reserve_much();
     }
 
-    /// What it keeps, while its session has not let go of it.
+    /// What it keeps, while it has its pins and what came in chunks.
     fn take_kept(&mut self) -> Option<LinkState<'d>> {
         if self.has_let_go {
             return None;
