@@ -32,7 +32,7 @@ pub loop-preserved : goal.loop-preserved
 loop-preserved g c =
     let inv = c.loop.invariant in
     let read = piece_read (TookMore g.P.Pieces.took c.args.pieces.now c.take.new.self) _ _ _ inv.1 c.read_next.new.piece c.in_ok-count.count inv.2 c.in_ok-count.ensures.bytes.0
-        (took_both g.P.Pieces.took c.args.pieces.now c.loop.pieces c.take.new.self inv.1 _ inv.3 c.in_ok-take.ensures.ok) in
+    (took_both g.P.Pieces.took c.args.pieces.now c.loop.pieces c.take.new.self inv.1 _ inv.3 c.in_ok-take.ensures.ok) in
     (omega arith, read.0, read.1, read.2)
 
 pub returns-clause-part : goal.returns-clause-part
