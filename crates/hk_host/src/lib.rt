@@ -3,7 +3,7 @@
 //!
 //! `NodeHost` answers over the shared node and the connection's own seat, `FeedHost` so that only items come in, `SeatHost` over
 //! a seat alone; hk_link's `PartsHost` over each of them, in both versions. `serve_links` runs a session of one for each seat of a node, in
-//! a thread each; hk_workers has the thousands of a long-running node.
+//! a thread each; hk_net has the thousands of a long-running node.
 #![tactic(auto)]
 
 mod bell;

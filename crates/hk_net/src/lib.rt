@@ -1,13 +1,30 @@
-//! Connections to one running node: as many as there are seats, each served in a thread of its own, by hk_host; or thousands of them, by
-//! hk_workers.
+//! Connections to one running node: thousands of them, served by a few threads; or as many as there are seats, each served in a thread
+//! of its own, by hk_host.
 //!
-//! A host of hk_host answers the requests of a connection over the shared node and a seat; `serve_links` accepts the connections and runs
-//! a session of `hk_session` on each. What crosses threads and sockets is shown by tests.
+//! A worker is a thread with one seat of the node and all its connections, whose sockets never wait: it sleeps until some of them can be
+//! read or written, a time that one waits for is readable, or a limit of time is over. What crosses threads and sockets is shown by tests.
 #![tactic(auto)]
 
+mod accepting;
+mod arrivals;
+mod doors;
+mod link;
+mod links;
+mod places;
+mod reactor;
+mod serving;
+mod shop;
+mod sockets;
+mod staying;
+mod turns;
+mod waiting;
+mod worker;
+mod writing;
+
+pub use doors::{Door, Limits};
 pub use hk_host::{
     FeedHost, LinkEvent, NetFault, NodeHost, SeatHost, Watch, read_on_seat, serve_links,
     serve_on_seat, serve_parts, serve_plain,
 };
 pub use hk_link::{LinkState, Meters, NodeSide, PartsBudget, PartsHost, given_law};
-pub use hk_workers::{Door, Limits, serve_forever};
+pub use staying::serve_forever;
