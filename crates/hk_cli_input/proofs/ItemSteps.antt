@@ -1,5 +1,5 @@
 -- The items of pieces that come one after the other.
-use Rattle.std.proofs.Common.{◌≡◌, ℕ, List, [], ◌∷◌, ◌++◌, Result, Ok, Err, is_ok, true, ◌⊎◌, refl, sym, ap, subst, ◌∙◌, append-nil, arith, inl, inr}
+use Rattle.std.proofs.Common.{◌≡◌, ℕ, List, [], ◌∷◌, ◌++◌, Result, Ok, Err, is_ok, true, ◌⊎◌, refl, sym, ap, subst, ◌∙◌, append_assoc, append-nil, arith, inl, inr}
 use Rattle.hk_types.specs.declared.faults.FormFault.{FormFault}
 use Rattle.hk_types.specs.declared.faults.Refusal.{Refusal}
 use Rattle.hk_log.specs.declared.item.Item.{Item}
@@ -71,3 +71,27 @@ none_left (Err fault) result is good = cc
 pub all_items : {T : Type 0} (took : T → List Item → T → Type 0) (start a : T) (bytes : List ℕ) (left : Result (List ℕ) FormFault) (result : Result (Unit {0}) Refusal) → Stands took start a bytes left → result ≡ last_answer left
     → is_ok result ≡ true → TookItems took start a bytes
 all_items took start a bytes left result s is good = (s.2, subst (Reads bytes s.2) (none_left left result is good) s.3, s.4)
+
+-- ---- a piece in parts
+
+pub goes_nowhere : {T : Type 0} (took : T → List Item → T → Type 0) (a : T) (left : Result (List ℕ) FormFault) → GoesOn took a a left left []
+goes_nowhere took a left start bytes s = subst (λ (l : List ℕ). Stands took start a l left) (sym (append-nil bytes)) s
+
+pub goes_further : {T : Type 0} (took : T → List Item → T → Type 0) (a b c : T) (left left_then left_last : Result (List ℕ) FormFault) (front part : List ℕ)
+    → GoesOn took a b left left_then front → GoesOn took b c left_then left_last part → GoesOn took a c left left_last (front ++ part)
+goes_further took a b c left left_then left_last front part first second start bytes s =
+    subst (λ (l : List ℕ). Stands took start c l left_last) (append_assoc bytes front part) (second start (bytes ++ front) (first start bytes s))
+
+pub breaks_further : {T : Type 0} (took : T → List Item → T → Type 0) (a b c : T) (left left_then : Result (List ℕ) FormFault) (front part rest : List ℕ)
+    → GoesOn took a b left left_then front → BreaksOff took b c left_then part → BreaksOff took a c left (front ++ (part ++ rest))
+breaks_further took a b c left left_then front part rest first second start bytes s =
+    let broke = second start (bytes ++ front) (first start bytes s) in (
+      broke.0,
+      broke.1 ++ rest,
+      (ap (λ (l : List ℕ). bytes ++ l) (sym (append_assoc front part rest)) ∙ (sym (append_assoc bytes (front ++ part) rest)
+          ∙ ap (λ (l : List ℕ). l ++ rest) (sym (append_assoc bytes front part) ∙ broke.2))) ∙ append_assoc broke.0 broke.1 rest,
+      broke.3,
+      broke.4,
+      broke.5,
+      broke.6,
+    )

@@ -14,6 +14,9 @@ use hk_types::Refusal;
 use std::alloc::Global;
 use std::io::Read;
 
+/// How many bytes of a piece are decoded at a time, so that the next items take the memory that the last ones gave back.
+const PART_BYTES: usize = 1_024;
+
 /// What receives the items of an input, one after the other.
 pub trait Sink {
     ghost took: { Self → List Item → Self → Type 0 };
@@ -90,6 +93,24 @@ struct Position {
     kind: u8,
 }
 
+/// Hands on the items that a part of a piece completes.
+fn take_part<S: Sink>(
+    alloc: Global,
+    feeder: &mut Feeder,
+    at: &mut Position,
+    sink: &mut S,
+    part: &[u8],
+) -> Result<(), Stop>
+    ensures ok { OnOk result (GoesOn S.took sink.old sink.new feeder.old feeder.new part.now) }
+    ensures err { OnErr result (BreaksOff S.took sink.old sink.new feeder.old part.now) }
+{
+    pieces_join();
+    let mut items = Vec::new(alloc);
+    let fed = feeder.feed(part, &mut items);
+    take_all(items, sink, &mut at.count)?;
+    checked(fed, at.count, at.kind)
+}
+
 /// Hands on the items that a piece completes.
 fn take_piece<S: Sink>(
     alloc: Global,
@@ -101,14 +122,13 @@ fn take_piece<S: Sink>(
     ensures ok { OnOk result (GoesOn S.took sink.old sink.new feeder.old feeder.new piece.now) }
     ensures err { OnErr result (BreaksOff S.took sink.old sink.new feeder.old piece.now) }
 {
-    pieces_join();
     if at.kind == 0 {
         at.kind = kind_at_head(piece);
     }
-    let mut items = Vec::new(alloc);
-    let fed = feeder.feed(piece, &mut items);
-    take_all(items, sink, &mut at.count)?;
-    checked(fed, at.count, at.kind)
+    for part in piece.chunks(PART_BYTES) {
+        take_part(alloc, feeder, at, sink, part)?;
+    }
+    Ok(())
 }
 
 /// Passes the items of the input to the sink in their order, up to the end, or to what stops them first: the sink, a

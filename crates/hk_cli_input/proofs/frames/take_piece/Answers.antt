@@ -1,25 +1,39 @@
-use Rattle.std.proofs.Common.{sym, ◌∙◌, [], append-nil}
-use Rattle.hk_cli_input.proofs.Took.{err_so, ok_so}
-use Rattle.hk_cli_input.proofs.ItemSteps.{goes_on, breaks_off}
+use Rattle.std.proofs.Common.{rules, ℕ, List, [], ◌++◌, sym, ap, ◌∙◌, subst, append_assoc, append-nil}
+use Rattle.std.proofs.lemmas.List.{nil_from_length}
+use Rattle.std.specs.Slice.Iter.{chunks_rest}
+use Rattle.hk_cli_input.specs.Items.{GoesOn, BreaksOff}
+use Rattle.hk_cli_input.proofs.Took.{err_so}
+use Rattle.hk_cli_input.proofs.ItemSteps.{goes_nowhere, goes_further, breaks_further}
 use Rattle.hk_cli_input.proofs.frames.take_piece.Goals as goal
 
-pub returns-in_err-take_all-clause-err : goal.returns-in_err-take_all-clause-err
-returns-in_err-take_all-clause-err g c =
-    let f = c.feed-fed in
+pub loop-part-init : goal.loop-part-init
+loop-part-init g c = (search rules, tt, [], search rules, goes_nowhere g.S.Sink.took c.args.sink.now c.args.feeder.now)
+
+pub loop-part-preserved : goal.loop-part-preserved
+loop-part-preserved g c =
+    let inv = c.loop-part.invariant in
+    let part = c.in-Some.part.now in
+    let cut = c.in-Some.ensures.steps.1.0 in (
+      search rules,
+      tt,
+      inv.2 ++ part,
+      inv.3 ∙ (ap (λ (l : List ℕ). inv.2 ++ l) cut ∙ sym (append_assoc inv.2 part (chunks_rest c.next.new.self))),
+      goes_further g.S.Sink.took c.args.sink.now c.loop-part.sink c.take_part.new.sink c.args.feeder.now c.loop-part.feeder c.take_part.new.feeder inv.2 part inv.4 c.in_ok-take_part.ensures.ok,
+    )
+
+pub returns-in_err-take_part-clause-err : goal.returns-in_err-take_part-clause-err
+returns-in_err-take_part-clause-err g c =
+    let inv = c.loop-part.invariant in
+    let part = c.in-Some.part.now in
+    let cut = c.in-Some.ensures.steps.1.0 in
     err_so c.from_residual.result
-    (breaks_off g.S.Sink.took c.args.sink.now c.take_all.new.sink c.args.feeder.now f.new.self c.new-items.result.items f.new.out.items c.args.piece.now f.result
-    c.pieces_join.ensures c.new-items.ensures.items f.ensures.reads f.ensures.memory c.in_err-take_all.ensures.err)
+    (subst (λ (l : List ℕ). BreaksOff g.S.Sink.took c.args.sink.now c.take_part.new.sink c.args.feeder.now l)
+    (sym (inv.3 ∙ ap (λ (l : List ℕ). inv.2 ++ l) cut))
+    (breaks_further g.S.Sink.took c.args.sink.now c.loop-part.sink c.take_part.new.sink c.args.feeder.now c.loop-part.feeder inv.2 part (chunks_rest c.next.new.self) inv.4 c.in_err-take_part.ensures.err))
 
 pub returns-clause-ok : goal.returns-clause-ok
 returns-clause-ok g c =
-    let f = c.feed-fed in
-    ok_so c.checked.result (λ good.
-    goes_on g.S.Sink.took c.args.sink.now c.take_all.new.sink c.args.feeder.now f.new.self c.new-items.result.items f.new.out.items c.args.piece.now f.result
-    c.pieces_join.ensures c.new-items.ensures.items f.ensures.reads (sym c.checked.ensures ∙ good) c.in_ok-take_all.ensures.ok)
-
-pub returns-clause-err : goal.returns-clause-err
-returns-clause-err g c =
-    let f = c.feed-fed in
-    err_so c.checked.result
-    (breaks_off g.S.Sink.took c.args.sink.now c.take_all.new.sink c.args.feeder.now f.new.self c.new-items.result.items f.new.out.items c.args.piece.now f.result
-    c.pieces_join.ensures c.new-items.ensures.items f.ensures.reads f.ensures.memory (f.new.out.items, [], sym (append-nil f.new.out.items), c.in_ok-take_all.ensures.ok))
+    let inv = c.loop-part.invariant in
+    let none = nil_from_length _ c.in-None.ensures.steps.1.0 in
+    subst (λ (l : List ℕ). GoesOn g.S.Sink.took c.args.sink.now c.loop-part.sink c.args.feeder.now c.loop-part.feeder l)
+    (sym (inv.3 ∙ (ap (λ (l : List ℕ). inv.2 ++ l) none ∙ append-nil inv.2))) inv.4
