@@ -43,3 +43,7 @@ err_then (Err e) p then = then p
 -- a read that gave nothing
 pub none_read : (o p q : Option (List ℕ)) (bytes buf : List ℕ) (n : ℕ) → Consumes o p bytes → Consumes p q (take n buf) → n ≡ 0 → Consumes o q bytes
 none_read o p q bytes buf n h k zero_is = subst (Consumes o q) (ap (λ (i : ℕ). bytes ++ take i buf) zero_is ∙ append-nil bytes) (Consumes-trans o p q bytes (take n buf) h k)
+
+-- what was read and a piece more, where this is done with both
+pub piece_read : (Done : List ℕ → Type 0) (o p q : Option (List ℕ)) (bytes buf : List ℕ) (n : ℕ) → Consumes o p bytes → Consumes p q (take n buf) → Done (bytes ++ take n buf) → (all : List ℕ) × Consumes o q all × Done all
+piece_read Done o p q bytes buf n h k done = (bytes ++ take n buf, Consumes-trans o p q bytes (take n buf) h k, done)

@@ -1,6 +1,6 @@
 //! Reading item frames.
 
-ghost use Rattle.std.specs.Prelude.{◌≡◌, List, [], ◌∷◌, is_ok, OnOk, OnErr};
+ghost use Rattle.std.specs.Prelude.{◌≡◌, List, [], ◌∷◌, is_ok, slice_index_or, OnOk, OnErr};
 ghost use Rattle.hk_log.specs.declared.item.Item.{Item};
 ghost use Rattle.hk_cli_input.specs.Taking.{TookMore, TookFront, TookNone, Gave, GaveAll};
 ghost use Rattle.hk_cli_input.specs.Items.{TookItems, TookFirstItems, GoesOn, BreaksOff};
@@ -28,7 +28,9 @@ pub trait Sink {
 }
 
 /// The kind of the first frame of an input, by its first bytes; 0 where they don't reach so far.
-pub fn kind_at_head(piece: &[u8]) -> u8 {
+pub fn kind_at_head(piece: &[u8]) -> u8
+    ensures { result ≡ slice_index_or piece.now 5 0 }
+{
     match piece.get(5) {
         Some(kind) => *kind,
         None => 0,

@@ -1,1 +1,1 @@
-mod Sent
+mod Results

@@ -1,6 +1,7 @@
-use Rattle.std.proofs.Common.{subst, ℕ, List, [], ◌++◌, ◌<◌, length, take, sym, ◌∙◌, arith}
-use Rattle.std.proofs.KnownBytes.{Consumes-nil, Consumes-trans, Consumes-kept}
-use Rattle.hk_cli_input.proofs.Took.{err_so, ok_so, none_read}
+use Rattle.std.proofs.Common.{subst, ℕ, List, [], ◌<◌, length, sym, ◌∙◌, arith}
+use Rattle.std.proofs.KnownBytes.{Consumes-nil, Consumes-kept}
+use Rattle.hk_cli_input.specs.Items.{Stands}
+use Rattle.hk_cli_input.proofs.Took.{err_so, ok_so, none_read, piece_read}
 use Rattle.hk_cli_input.proofs.ItemSteps.{stands_start, all_items, first_here, nothing_yet}
 use Rattle.hk_cli_input.proofs.frames.hand_items.Goals as goal
 
@@ -42,19 +43,14 @@ returns-then-count-eq0-clause-part g c =
 pub returns-in_err-take_piece-clause-part : goal.returns-in_err-take_piece-clause-part
 returns-in_err-take_piece-clause-part g c =
     let inv = c.loop.invariant in
-    let piece = take c.in_ok-count.count c.read_next.new.piece in
     err_so c.from_residual-in_err-take_piece.result
-    (inv.1 ++ piece, Consumes-trans _ _ _ inv.1 piece inv.2 c.in_ok-count.ensures.bytes.0, c.in_err-take_piece.ensures.err c.args.sink.now inv.1 inv.3)
+    (piece_read _ _ _ _ inv.1 c.read_next.new.piece c.in_ok-count.count inv.2 c.in_ok-count.ensures.bytes.0 (c.in_err-take_piece.ensures.err c.args.sink.now inv.1 inv.3))
 
 pub loop-preserved : goal.loop-preserved
 loop-preserved g c =
     let inv = c.loop.invariant in
-    let piece = take c.in_ok-count.count c.read_next.new.piece in (
-      omega arith,
-      inv.1 ++ piece,
-      Consumes-trans _ _ _ inv.1 piece inv.2 c.in_ok-count.ensures.bytes.0,
-      c.in_ok-take_piece.ensures.ok c.args.sink.now inv.1 inv.3,
-    )
+    let more = piece_read (λ (l : List ℕ). Stands g.S.Sink.took c.args.sink.now c.take_piece.new.sink l c.take_piece.new.feeder) _ _ _ inv.1 c.read_next.new.piece c.in_ok-count.count inv.2 c.in_ok-count.ensures.bytes.0 (c.in_ok-take_piece.ensures.ok c.args.sink.now inv.1 inv.3) in
+    (omega arith, more.0, more.1, more.2)
 
 pub returns-clause-part : goal.returns-clause-part
 returns-clause-part g c =

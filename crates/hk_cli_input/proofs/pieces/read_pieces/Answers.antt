@@ -1,6 +1,7 @@
-use Rattle.std.proofs.Common.{subst, ℕ, List, [], ◌++◌, ◌<◌, length, take, append-nil, sym, arith}
-use Rattle.std.proofs.KnownBytes.{Consumes-nil, Consumes-trans, Consumes-kept}
-use Rattle.hk_cli_input.proofs.Took.{err_so, took_no_more, took_both, front_behind, front_none, none_read}
+use Rattle.std.proofs.Common.{subst, ℕ, List, [], ◌<◌, length, append-nil, sym, arith}
+use Rattle.std.proofs.KnownBytes.{Consumes-nil, Consumes-kept}
+use Rattle.hk_cli_input.specs.Taking.{TookMore}
+use Rattle.hk_cli_input.proofs.Took.{err_so, took_no_more, took_both, front_behind, front_none, none_read, piece_read}
 use Rattle.hk_cli_input.proofs.pieces.read_pieces.Goals as goal
 
 pub returns-in_err-room-clause-part : goal.returns-in_err-room-clause-part
@@ -23,19 +24,14 @@ returns-then-count-eq0-clause-all g c =
 pub returns-in_err-take-clause-part : goal.returns-in_err-take-clause-part
 returns-in_err-take-clause-part g c =
     let inv = c.loop.invariant in
-    let piece = take c.in_ok-count.count c.read_next.new.piece in
     err_so c.from_residual-in_err-take.result
-    (inv.1 ++ piece, Consumes-trans _ _ _ inv.1 piece inv.2 c.in_ok-count.ensures.bytes.0, front_behind g.P.Pieces.took c.args.pieces.now c.loop.pieces c.take.new.self inv.1 piece inv.3 c.in_err-take.ensures.err)
+    (piece_read _ _ _ _ inv.1 c.read_next.new.piece c.in_ok-count.count inv.2 c.in_ok-count.ensures.bytes.0 (front_behind g.P.Pieces.took c.args.pieces.now c.loop.pieces c.take.new.self inv.1 _ inv.3 c.in_err-take.ensures.err))
 
 pub loop-preserved : goal.loop-preserved
 loop-preserved g c =
     let inv = c.loop.invariant in
-    let piece = take c.in_ok-count.count c.read_next.new.piece in (
-      omega arith,
-      inv.1 ++ piece,
-      Consumes-trans _ _ _ inv.1 piece inv.2 c.in_ok-count.ensures.bytes.0,
-      took_both g.P.Pieces.took c.args.pieces.now c.loop.pieces c.take.new.self inv.1 piece inv.3 c.in_ok-take.ensures.ok,
-    )
+    let more = piece_read (TookMore g.P.Pieces.took c.args.pieces.now c.take.new.self) _ _ _ inv.1 c.read_next.new.piece c.in_ok-count.count inv.2 c.in_ok-count.ensures.bytes.0 (took_both g.P.Pieces.took c.args.pieces.now c.loop.pieces c.take.new.self inv.1 _ inv.3 c.in_ok-take.ensures.ok) in
+    (omega arith, more.0, more.1, more.2)
 
 pub returns-clause-part : goal.returns-clause-part
 returns-clause-part g c =

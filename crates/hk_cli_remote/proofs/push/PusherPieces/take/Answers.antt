@@ -1,5 +1,5 @@
 use Rattle.std.proofs.Common.{[], refl}
-use Rattle.hk_cli_remote.proofs.Sent.{err_so}
+use Rattle.hk_cli_remote.proofs.Results.{err_so}
 use Rattle.hk_cli_remote.proofs.push.PusherPieces.take.Goals as goal
 
 -- Of what it takes nothing is told, so a front that is empty will do.
