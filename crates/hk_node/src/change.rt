@@ -147,7 +147,7 @@ fn refusal_of_merge<J: NodeName, R: Wait + Drop>(
     let Ok(()) = publisher.publish() else {
         return Refusal::Memory;
     };
-    match publisher.merge_refusal(state) {
+    match publisher.published().body.merge_refusal(state) {
         Some(why) => why,
         None => Refusal::Memory,
     }

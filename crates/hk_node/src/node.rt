@@ -73,7 +73,7 @@ pub fn start<J: NodeName, R: Wait + Drop>(
 /// what is true, are joined.
 ///
 /// Cost: each call has its own, beside O(p), p reader slots. A change is made on one copy at once, and on the other
-/// one by the next change, which pays for both.
+/// one by the next change, which pays for both, or before that by `settle`.
 #[derive(Drop)]
 pub struct Node<J: NodeName, R: Wait + Drop> {
     publisher: Mutex<Publisher<J, R>>,
@@ -223,5 +223,17 @@ impl<J: NodeName, R: Wait + Drop> Node<J, R> {
     {
         let mut publisher = self.publisher.lock(rt);
         publish_waiting(&mut *publisher)
+    }
+
+    /// Has the older copy take the last change too, so that the next change pays for itself alone: for a caller that nobody
+    /// waits for, after a change that took long. The list, what readers see and what a receipt says stay the same: proved of
+    /// what lies under the lock, by `Publisher::settle`. That the next change is cheaper is only tested.
+    ///
+    /// Nothing is refused: where there is no memory, or an operation waits, nothing happens, and the next change pays as before.
+    /// It waits for the lock, and for the readers that still read the older copy; a change waits for it as for another change.
+    /// Cost: that of the operation that the older copy lacks.
+    pub fn settle<W: Wait>(&self, rt: &W) {
+        let mut publisher = self.publisher.lock(rt);
+        publisher.settle();
     }
 }

@@ -4,8 +4,7 @@ ghost use Rattle.std.specs.Prelude.{◌≡◌, ◌++◌, ◌∷◌, [], fold, le
 ghost use Rattle.left_right.specs.Sides.{view as known};
 ghost use Rattle.hk_oplog.specs.declared.op.Op.TheVariants.{Start as StartOf};
 ghost use Rattle.hk_types.specs.declared.faults.Refusal.TheVariants.{Memory};
-ghost use Rattle.hk_model.specs.Replica.Fragments.{cut};
-ghost use Rattle.hk_oplog.specs.Replay.{join_refused, kind_of, start_content, is_legal, refusal_of, replay, IsListOf};
+ghost use Rattle.hk_oplog.specs.Replay.{kind_of, start_content, is_legal, refusal_of, replay, IsListOf};
 ghost use Rattle.hk_oplog.specs.Guarded.{AgreesWith};
 ghost use Rattle.hk_oplog.specs.NewItems.{count_new};
 ghost use Rattle.hk_node.specs.Published.{IsEmptied, IsReady, IsReplay, IsShown, ShowsAll, next, pending, shown, waiting};
@@ -17,7 +16,6 @@ use crossbeam_utils::rule::{Outcome, Protocol};
 use hk_delta::Fragment;
 use hk_log::Item;
 use hk_oplog::{NodeKind, Op};
-use hk_state::ReplicaState;
 use hk_types::{Refusal, Time};
 use left_right::reader::{Reader, Reading};
 use left_right::writer::Writer;
@@ -186,6 +184,7 @@ impl<J: NodeName> Receipt<J> {
 ///     change 3     shown B: 1, 2, 3       spare A: 1, 2          log: 3
 ///     change 4     shown B: 1, 2, 3       spare A: 1, 2, 3       log: 4    no memory: `Unpublished`, 4 waits
 ///     change 5     shown B: 1 to 5        spare A: 1 to 4        log: 5
+///     settle       shown A: 1 to 5        spare B: 1 to 5        log: none
 ///
 /// Change 5 first publishes what waits: A gets 4 and is shown. Then 5 is tested on A, B gets 4 and 5, and B is shown.
 /// Before a copy is changed, the writer waits for the readers that still read it.
@@ -243,6 +242,18 @@ impl<J: NodeName, R: Wait + Drop> Publisher<J, R> {
         publish_all(&mut self.copies.writer, &mut self.late, &self.copies.rt)
     }
 
+    /// Has the spare copy take the operation that it lacks, and be shown: the next change then pays for itself alone. Where an
+    /// operation waits, or there is no memory, nothing changes and the next change pays for both. It waits for readers that still
+    /// read the older copy. Cost: that of the operation that this copy lacks.
+    pub fn settle(&mut self)
+        ensures { self.new ≡ self.old }
+    {
+        if self.late.is_some() || self.copies.writer.has_pending_operations() {
+            return;
+        }
+        let _settled = replace_with(&mut self.copies.writer, &self.copies.rt, show::<R>);
+    }
+
     /// What readers read now.
     pub(crate) fn published(&self) -> &Replica
         ensures body { result.now.body ≡ replay self.now.0 }
@@ -281,13 +292,6 @@ impl<J: NodeName, R: Wait + Drop> Publisher<J, R> {
         self.published().body.refusal(op)
     }
 
-    /// Why the full snapshot of a state is not joined after the published list, if it is not. Cost: as `refusal`.
-    pub fn merge_refusal(&self, state: &ReplicaState) -> Option<Refusal>
-        ensures { result ≡ join_refused (replay self.now.0) (cut state.now 0) }
-    {
-        self.published().body.merge_refusal(state)
-    }
-
     /// The fragment of what is new in items after the published list, where they agree with it and with each other.
     pub fn agreed(&self, alloc: Global, items: &[Item]) -> Result<Fragment, Refusal>
         ensures { AgreesWith (replay self.now.0) items.now result }
@@ -307,7 +311,7 @@ impl<J: NodeName, R: Wait + Drop> Publisher<J, R> {
         requires { refusal_of (replay self.now.0) op.now ≡ None }
         ensures { IfSome result (λ p. p ≡ (J.book, self.now.0 ++ op.now ∷ [])) }
     {
-        self.published().extended(&self.counter, op)
+        self.published().prefix.extended(&self.counter, op)
     }
 
     /// Puts an operation behind the published list, to wait.

@@ -1,10 +1,10 @@
 //! A copy of the node's state, with a token of the list of operations that it is the replay of.
 
-ghost use Rattle.std.specs.Prelude.{◌≡◌, ◌++◌, ◌∷◌, [], None, IfOk, IfSome, IfErr};
+ghost use Rattle.std.specs.Prelude.{◌≡◌, IfOk, IfErr};
 ghost use Rattle.hk_types.specs.declared.faults.Refusal.TheVariants.{Memory};
-ghost use Rattle.hk_oplog.specs.Replay.{start_content, refusal_of, replay};
+ghost use Rattle.hk_oplog.specs.Replay.{start_content};
 
-use crate::book::{Counter, Prefix};
+use crate::book::Prefix;
 use hk_oplog::{Body, NodeKind, Op};
 use hk_types::Refusal;
 use left_right::Absorb;
@@ -26,16 +26,6 @@ impl Replica {
     {
         let body = Body::new(alloc, kind)?;
         Ok(Replica { body, prefix })
-    }
-
-    /// The list with one operation more, which the node's list has from now on.
-    pub fn extended(&self, counter: &Counter, op: &Op) -> Option<Prefix>
-        requires counter { counter.now.word.book ≡ self.now.prefix.0 }
-        requires replayed { self.now.body ≡ replay self.now.prefix.1 }
-        requires legal { refusal_of self.now.body op.now ≡ None }
-        ensures { IfSome result (λ p. p ≡ (self.now.prefix.0, self.now.prefix.1 ++ op.now ∷ [])) }
-    {
-        self.prefix.extended(counter, op)
     }
 }
 

@@ -79,7 +79,7 @@ fn pruned(alloc: Global, to: Time) -> Result<Fragment, Fail> {
 }
 
 /// A node with a seat, and the pins that it returned. Of the requests for memory of each call of the node the one
-/// with this number is refused, none where it is 0.
+/// with this number is refused, none where it is 0. Where it settles, its second copy catches up after each change.
 #[derive(Drop)]
 struct Game<J: NodeName, S: Wait + Drop> {
     alloc: Global,
@@ -87,6 +87,7 @@ struct Game<J: NodeName, S: Wait + Drop> {
     seat: ReaderSeat<J>,
     holds: Vec<Hold>,
     number: usize,
+    settles: bool,
 }
 
 /// A request for so many bytes and N more lets the Nth request from then on be refused, where the tests run
@@ -155,6 +156,14 @@ impl<J: NodeName, S: Wait + Drop> Game<J, S> {
                 (0, ops, self.seat.receipt().ops())
             }
             Err(why) => refused(why),
+        }
+    }
+
+    fn settle<R: Wait>(&self, rt: &R) {
+        if self.settles {
+            refuse(self.alloc, self.number);
+            self.node.settle(rt);
+            refuse(self.alloc, 0);
         }
     }
 
@@ -278,7 +287,11 @@ impl<J: NodeName, S: Wait + Drop> Game<J, S> {
             Does::Latest(key) => Ok(self.latest(key)),
             Does::Page(low, most, at) => Ok(self.page(low, most, time(at)?)),
             Does::Streams => Ok(self.streams()),
-            change => self.change(rt, change),
+            change => {
+                let told = self.change(rt, change);
+                self.settle(rt);
+                told
+            }
         }
     }
 }
@@ -289,7 +302,12 @@ fn forged(reader: u64, at: u64) -> Result<Hold, Fail> {
 }
 
 /// A node of log 7 with one stream and two reader slots.
-fn new_game<J: NodeName, R: Wait>(rt: &R, alloc: Global, list: NewList) -> Result<Game<J, &R>, Fail>
+fn new_game<J: NodeName, R: Wait>(
+    rt: &R,
+    alloc: Global,
+    list: NewList,
+    settles: bool,
+) -> Result<Game<J, &R>, Fail>
     requires { list ≡ (J.book, J.kind) }
 {
     let (node, mut seats) = start::<J, &R>(rt, alloc, list, 2)?;
@@ -300,6 +318,7 @@ fn new_game<J: NodeName, R: Wait>(rt: &R, alloc: Global, list: NewList) -> Resul
         seat,
         holds: Vec::new(alloc),
         number: 0,
+        settles,
     })
 }
 
@@ -320,11 +339,12 @@ fn steps<J: NodeName, R: Wait + Abort>(
     rt: &R,
     alloc: Global,
     list: NewList,
+    settles: bool,
     rows: &[(Does, Tells)],
 ) -> Result<(), Fail>
     requires { list ≡ (J.book, J.kind) }
 {
-    let mut game = new_game::<J, R>(rt, alloc, list)?;
+    let mut game = new_game::<J, R>(rt, alloc, list, settles)?;
     plays(rt, &mut game, rows)
 }
 
@@ -475,7 +495,8 @@ fn one_day(rt: HostRuntime) -> Result<(), Fail> {
         (true, MERGED.as_slice()),
         (true, CLOSED.as_slice()),
     ] {
-        steps::<Brand, _>(&rt, alloc, new_list(is_guarded)?, rows)?;
+        steps::<Brand, _>(&rt, alloc, new_list(is_guarded)?, false, rows)?;
+        steps::<Brand, _>(&rt, alloc, new_list(is_guarded)?, true, rows)?;
     }
     Ok(())
 }
@@ -483,9 +504,9 @@ fn one_day(rt: HostRuntime) -> Result<(), Fail> {
 #[test]
 fn each_request_refused(rt: HostRuntime) -> Result<(), Fail> {
     let alloc = rt.alloc();
-    for turn in 0..=2 * MOST_REQUESTS + 1 {
+    for turn in 0..=4 * MOST_REQUESTS + 3 {
         let list = new_list(turn % 2 == 1)?;
-        waits::<Brand, _>(&rt, alloc, list, turn / 2)?;
+        waits::<Brand, _>(&rt, alloc, list, turn / 2 % 2 == 1, turn / 4)?;
     }
     Ok(())
 }
@@ -552,11 +573,12 @@ fn waits<J: NodeName, R: Wait + Abort>(
     rt: &R,
     alloc: Global,
     list: NewList,
+    settles: bool,
     number: usize,
 ) -> Result<(), Fail>
     requires { list ≡ (J.book, J.kind) }
 {
-    let mut game = new_game::<J, R>(rt, alloc, list)?;
+    let mut game = new_game::<J, R>(rt, alloc, list, settles)?;
     for (ops, does) in (2u64..).zip(CHANGES) {
         at_last(rt, &mut game, does, number, ops)?;
     }
