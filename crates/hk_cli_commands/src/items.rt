@@ -25,8 +25,9 @@ impl<'a, W: Write, E: Write> Sink for Output<'a, W, E> {
 /// - `refused 91` where a read failed, or 2^32 reads did not come to the end;
 /// - no line where a write failed or took no bytes: the status alone shows it.
 ///
-/// What stops it is explained in words on `errors`. It reads 65,536 bytes at a time, keeps their items and the part of a
-/// frame behind them, and writes once 65,536 bytes of lines are gathered, and at the end. Cost: O(n), n bytes of the input.
+/// What stops it is explained in words on `errors`. It reads 65,536 bytes at a time, keeps them and the items of 1,024 of them,
+/// and the part of a frame behind them, and writes once 65,536 bytes of lines are gathered, and at the end. Cost: O(n), n bytes
+/// of the input.
 pub fn run_items<I: Read, W: Write, E: Write>(
     alloc: Global,
     input: &mut I,
