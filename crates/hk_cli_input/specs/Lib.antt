@@ -1,3 +1,4 @@
 pub mod Taking
 pub mod Lines
 pub mod Items
+pub mod Stops

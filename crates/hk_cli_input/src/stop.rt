@@ -3,6 +3,7 @@
 ghost use Rattle.std.specs.Prelude.{◌≡◌};
 ghost use Rattle.hk_types.specs.declared.faults.Refusal.TheVariants.{Form, Memory};
 ghost use Rattle.hk_cli_input.specs.declared.stop.Stop.TheVariants.{Refused};
+ghost use Rattle.hk_cli_input.specs.Stops.{refusal_of, device_number, placed};
 
 use hk_cli_reasons::{Origin, Place};
 use hk_types::{FormFault, Refusal};
@@ -34,7 +35,9 @@ pub enum LinkFault {
 
 impl LinkFault {
     /// The refusal that is printed for it, where it has one.
-    pub fn refusal(&self) -> Option<Refusal> {
+    pub fn refusal(&self) -> Option<Refusal>
+        ensures { result ≡ refusal_of self.now }
+    {
         match self {
             LinkFault::NoNode(_, why) => Some(*why),
             LinkFault::OtherLog { .. } => Some(Refusal::ForeignLog),
@@ -100,7 +103,9 @@ impl From<AllocError> for Stop {
 
 impl Stop {
     /// The number of what failed, where that is a device or a connection.
-    pub fn device_number(&self) -> u8 {
+    pub fn device_number(&self) -> u8
+        ensures { result ≡ device_number self.now }
+    {
         match self {
             Stop::Link(LinkFault::Cut, _) => 1,
             Stop::SendFault => 92,
@@ -110,7 +115,9 @@ impl Stop {
     }
 
     /// The same, with where it came from, where it is a refusal of which that isn't known.
-    pub fn at(self, origin: Origin) -> Stop {
+    pub fn at(self, origin: Origin) -> Stop
+        ensures { result ≡ placed origin self }
+    {
         match self {
             Stop::Refused(refusal) => Stop::RefusedAt(refusal, origin),
             other => other,
