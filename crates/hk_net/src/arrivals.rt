@@ -25,23 +25,19 @@ pub(crate) enum Arrival<'d, J: NodeName, const LATEST: u8> {
 
 /// What is left for a worker.
 #[derive(Drop)]
-pub(crate) struct Inbox<'d, J: NodeName, const LATEST: u8> {
-    arrivals: Mutex<Vec<Arrival<'d, J, LATEST>>>,
+pub(crate) struct Inbox<A: Drop> {
+    arrivals: Mutex<Vec<A>>,
 }
 
-impl<'d, J: NodeName, const LATEST: u8> Inbox<'d, J, LATEST> {
-    pub(crate) fn new(alloc: Global) -> Inbox<'d, J, LATEST> {
+impl<A: Drop> Inbox<A> {
+    pub(crate) fn new(alloc: Global) -> Inbox<A> {
         Inbox {
             arrivals: Mutex::new(Vec::new(alloc)),
         }
     }
 
     /// Leaves something for the worker, who has to be woken then. Where memory runs out it comes back.
-    pub(crate) fn leave<R: Wait>(
-        &self,
-        rt: &R,
-        arrival: Arrival<'d, J, LATEST>,
-    ) -> Result<(), Arrival<'d, J, LATEST>> {
+    pub(crate) fn leave<R: Wait>(&self, rt: &R, arrival: A) -> Result<(), A> {
         let mut arrivals = self.arrivals.lock(rt);
         match arrivals.push(arrival) {
             Ok(_kept) => Ok(()),
@@ -50,7 +46,7 @@ impl<'d, J: NodeName, const LATEST: u8> Inbox<'d, J, LATEST> {
     }
 
     /// All that was left.
-    pub(crate) fn take_all<R: Wait>(&self, rt: &R, alloc: Global) -> Vec<Arrival<'d, J, LATEST>> {
+    pub(crate) fn take_all<R: Wait>(&self, rt: &R, alloc: Global) -> Vec<A> {
         let mut arrivals = self.arrivals.lock(rt);
         mem::replace(&mut *arrivals, Vec::new(alloc))
     }

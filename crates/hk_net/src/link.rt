@@ -32,20 +32,13 @@ pub(crate) struct Readiness {
     pub(crate) is_broken: bool,
 }
 
-/// A connection of a worker.
+/// What is between a connection's socket and its session, and how far that is.
 #[derive(Drop)]
-pub(crate) struct Link<'d, const LATEST: u8> {
+pub(crate) struct Pipe<'d> {
     pub(crate) alloc: Global,
-    /// Where it is counted what it does.
+    /// Where it is counted what the connection does.
     pub(crate) meters: &'d Meters<'d>,
     pub(crate) socket: Socket,
-    /// The number of its door, and its place among the connections of all doors.
-    pub(crate) door: usize,
-    pub(crate) place: usize,
-    pub(crate) session: Session<LATEST>,
-    /// What it keeps beside its worker's seat, and how many bytes of that are reserved for what is between its socket and its session.
-    pub(crate) kept: Option<LinkState<'d>>,
-    pub(crate) reserved: u64,
     pub(crate) watch: FrameWatch,
     /// What was read and isn't handed to its session, since it begins with a request for a worker that gives long answers.
     pub(crate) rest: Vec<u8>,
@@ -61,8 +54,6 @@ pub(crate) struct Link<'d, const LATEST: u8> {
     pub(crate) is_readable: bool,
     /// It is read until nothing is there: a read that doesn't fill its buffer may not have taken all.
     pub(crate) is_special: bool,
-    /// It stands in the list of those that have a turn.
-    pub(crate) is_listed: bool,
     /// Its session keeps requests that can be answered.
     pub(crate) is_full: bool,
     /// Its next request is an Await, which was waited for.
@@ -72,29 +63,30 @@ pub(crate) struct Link<'d, const LATEST: u8> {
     pub(crate) shut_at: u64,
     /// It ends as it is, whatever stands.
     pub(crate) is_cut: bool,
+}
+
+/// A connection of a worker.
+#[derive(Drop)]
+pub(crate) struct Link<'d, const LATEST: u8> {
+    /// The number of its door, and its place among the connections of all doors.
+    pub(crate) door: usize,
+    pub(crate) place: usize,
+    pub(crate) pipe: Pipe<'d>,
+    pub(crate) session: Session<LATEST>,
+    /// What it keeps beside its worker's seat, and how many bytes of that are reserved for its pipe.
+    pub(crate) kept: Option<LinkState<'d>>,
+    pub(crate) reserved: u64,
     /// Its session has ended, and what it kept was dropped.
     pub(crate) has_let_go: bool,
 }
 
-impl<'d, const LATEST: u8> Link<'d, LATEST> {
-    /// A connection that was just accepted. It keeps nothing yet.
-    pub(crate) fn new(
-        alloc: Global,
-        socket: Socket,
-        door: usize,
-        place: usize,
-        now: u64,
-        meters: &'d Meters<'d>,
-    ) -> Link<'d, LATEST> {
-        Link {
+impl<'d> Pipe<'d> {
+    /// That of a connection that was just accepted.
+    pub(crate) fn new(alloc: Global, socket: Socket, now: u64, meters: &'d Meters<'d>) -> Pipe<'d> {
+        Pipe {
             alloc,
             meters,
             socket,
-            door,
-            place,
-            session: Session::new(alloc),
-            kept: None,
-            reserved: 0,
             watch: FrameWatch::new(),
             rest: Vec::new(alloc),
             unwritten: Unwritten::new(alloc),
@@ -104,13 +96,11 @@ impl<'d, const LATEST: u8> Link<'d, LATEST> {
             ended: None,
             is_readable: true,
             is_special: false,
-            is_listed: false,
             is_full: false,
             has_waited: false,
             is_shut: false,
             shut_at: 0,
             is_cut: false,
-            has_let_go: false,
         }
     }
 
@@ -130,48 +120,9 @@ impl<'d, const LATEST: u8> Link<'d, LATEST> {
         self.is_cut || is_read || !self.unwritten.is_empty()
     }
 
-    /// How many bytes of its replies aren't written: those that stand, and those of a reply that are still to be appended.
-    fn unwritten_bytes(&self) -> u64 {
-        let standing = self.unwritten.len() as u64;
-        standing.saturating_add(self.session.standing())
-    }
-
-    /// Reserves room of the budget for what is between its socket and its session: what came of a frame that isn't complete, what waits
-    /// for another worker, and replies that aren't written. A connection for which there is none ends. Fewer bytes than 4,096 aren't counted.
-    pub(crate) fn reserve(&mut self) {
-        let held = self
-            .watch
-            .held()
-            .saturating_add(self.rest.len() as u64)
-            .saturating_add(self.unwritten_bytes());
-        let bytes = held / COUNTED_BYTES * COUNTED_BYTES;
-        if bytes == self.reserved {
-            return;
-        }
-        let has_room = match &mut self.kept {
-            Some(kept) => kept.keep_bytes(bytes),
-            None => true,
-        };
-        if has_room {
-            self.reserved = bytes;
-        } else {
-            self.drop_held();
-        }
-    }
-
-    /// Ends it for want of room, and drops what it holds.
-    fn drop_held(&mut self) {
-        self.cut(Ended::Memory);
-        self.unwritten.drop_all();
-        self.rest = Vec::new(self.alloc);
-        self.session = Session::new(self.alloc);
-    }
-
-    /// The same at once where much stands, so that a reply for which there is no room is dropped before another one is made.
-    pub(crate) fn reserve_much(&mut self) {
-        if self.unwritten_bytes() > MOST_HELD as u64 {
-            self.reserve();
-        }
+    /// How many bytes stand before its session: what came of a frame that isn't complete, and what waits for another worker.
+    pub(crate) fn held(&self) -> u64 {
+        self.watch.held().saturating_add(self.rest.len() as u64)
     }
 
     /// Ends it as it is. A session that had ended keeps how it ended.
@@ -230,5 +181,67 @@ impl<'d, const LATEST: u8> Link<'d, LATEST> {
             || limits.idle_seconds > 0
             || !self.unwritten.is_empty() && limits.write_seconds > 0
             || self.watch.is_within() && (limits.read_seconds > 0 || limits.read_rate > 0)
+    }
+}
+
+impl<'d, const LATEST: u8> Link<'d, LATEST> {
+    /// A connection that was just accepted. It keeps nothing yet.
+    pub(crate) fn new(
+        alloc: Global,
+        socket: Socket,
+        door: usize,
+        place: usize,
+        now: u64,
+        meters: &'d Meters<'d>,
+    ) -> Link<'d, LATEST> {
+        Link {
+            door,
+            place,
+            pipe: Pipe::new(alloc, socket, now, meters),
+            session: Session::new(alloc),
+            kept: None,
+            reserved: 0,
+            has_let_go: false,
+        }
+    }
+
+    /// How many bytes of its replies aren't written: those that stand, and those of a reply that are still to be appended.
+    fn unwritten_bytes(&self) -> u64 {
+        let standing = self.pipe.unwritten.len() as u64;
+        standing.saturating_add(self.session.standing())
+    }
+
+    /// Reserves room of the budget for what is between its socket and its session: what came of a frame that isn't complete, what waits
+    /// for another worker, and replies that aren't written. A connection for which there is none ends. Fewer bytes than 4,096 aren't counted.
+    pub(crate) fn reserve(&mut self) {
+        let held = self.pipe.held().saturating_add(self.unwritten_bytes());
+        let bytes = held / COUNTED_BYTES * COUNTED_BYTES;
+        if bytes == self.reserved {
+            return;
+        }
+        let has_room = match &mut self.kept {
+            Some(kept) => kept.keep_bytes(bytes),
+            None => true,
+        };
+        if has_room {
+            self.reserved = bytes;
+        } else {
+            self.drop_held();
+        }
+    }
+
+    /// Ends it for want of room, and drops what it holds.
+    fn drop_held(&mut self) {
+        self.pipe.cut(Ended::Memory);
+        self.pipe.unwritten.drop_all();
+        self.pipe.rest = Vec::new(self.pipe.alloc);
+        self.session = Session::new(self.pipe.alloc);
+    }
+
+    /// The same at once where much stands, so that a reply for which there is no room is dropped before another one is made.
+    pub(crate) fn reserve_much(&mut self) {
+        if self.unwritten_bytes() > MOST_HELD as u64 {
+            self.reserve();
+        }
     }
 }

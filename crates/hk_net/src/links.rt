@@ -1,22 +1,30 @@
 //! The connections of a worker, each under the token that the system names it by.
 
-use crate::link::{Link, Readiness};
 use std::alloc::{AllocError, Global};
 use std::mem;
 
+/// What stands under a token.
+#[derive(Drop)]
+struct Slot<L: Drop> {
+    /// None where the token is free, or the connection has its turn.
+    link: Option<Box<L, Global>>,
+    /// Whether it stands in the list of those that have a turn.
+    is_listed: bool,
+}
+
 /// The connections of a worker.
 #[derive(Drop)]
-pub(crate) struct Links<'d, const LATEST: u8> {
-    /// Each at its token; none where the token is free, or the connection has its turn.
-    slots: Vec<Option<Box<Link<'d, LATEST>, Global>>>,
+pub(crate) struct Links<L: Drop> {
+    /// Each at its token.
+    slots: Vec<Slot<L>>,
     free: Vec<usize>,
     /// Those that have a turn in the next round, and those of this one.
     listed: Vec<usize>,
     round: Vec<usize>,
 }
 
-impl<'d, const LATEST: u8> Links<'d, LATEST> {
-    pub(crate) fn new(alloc: Global) -> Links<'d, LATEST> {
+impl<L: Drop> Links<L> {
+    pub(crate) fn new(alloc: Global) -> Links<L> {
         Links {
             slots: Vec::new(alloc),
             free: Vec::new(alloc),
@@ -44,23 +52,25 @@ impl<'d, const LATEST: u8> Links<'d, LATEST> {
         self.free.reserve(token.saturating_add(1))?;
         self.listed.reserve(token.saturating_add(1))?;
         self.round.reserve(token.saturating_add(1))?;
-        self.slots.push(None)?;
+        self.slots.push(Slot {
+            link: None,
+            is_listed: false,
+        })?;
         Ok(token)
     }
 
     /// Puts a connection under its token.
-    pub(crate) fn put(&mut self, token: usize, link: Box<Link<'d, LATEST>, Global>) {
+    pub(crate) fn put(&mut self, token: usize, link: Box<L, Global>) {
         if let Some(slot) = self.slots.get_mut(token) {
-            *slot = Some(link);
+            slot.link = Some(link);
         }
     }
 
-    /// Takes a connection out for its turn.
-    pub(crate) fn take(&mut self, token: usize) -> Option<Box<Link<'d, LATEST>, Global>> {
-        match self.slots.get_mut(token) {
-            Some(slot) => slot.take(),
-            None => None,
-        }
+    /// Takes a connection out for its turn, and off the list.
+    pub(crate) fn take(&mut self, token: usize) -> Option<Box<L, Global>> {
+        let slot = self.slots.get_mut(token)?;
+        slot.is_listed = false;
+        slot.link.take()
     }
 
     /// A token's connection has left.
@@ -70,33 +80,28 @@ impl<'d, const LATEST: u8> Links<'d, LATEST> {
     }
 
     /// The connection under a token.
-    pub(crate) fn get_mut(&mut self, token: usize) -> Option<&mut Link<'d, LATEST>> {
+    pub(crate) fn get_mut(&mut self, token: usize) -> Option<&mut L> {
         match self.slots.get_mut(token) {
-            Some(Some(link)) => Some(link),
+            Some(
+                Slot {
+                    link: Some(link),
+                    ..
+                },
+            ) => Some(link),
             _ => None,
         }
     }
 
     /// Gives the connection under a token a turn, once.
     pub(crate) fn list(&mut self, token: usize) {
-        let Some(link) = self.get_mut(token) else {
+        let Some(slot) = self.slots.get_mut(token) else {
             return;
         };
-        if mem::replace(&mut link.is_listed, true) {
+        if slot.link.is_none() || mem::replace(&mut slot.is_listed, true) {
             return;
         }
         // There is room for it since the token was made.
         let _kept = self.listed.push(token);
-    }
-
-    /// Notes what the system said of the connection under a token.
-    pub(crate) fn note(&mut self, token: usize, told: Readiness) {
-        let Some(link) = self.get_mut(token) else {
-            return;
-        };
-        if link.note(told) {
-            self.list(token);
-        }
     }
 
     /// Begins a round with those that have a turn now, and returns how many they are.

@@ -45,23 +45,22 @@ impl<'w, 'd, R: Wait + Clock + 'w, const LATEST: u8> Reactor<'w, 'd, R, LATEST> 
         }
     }
 
-    /// Takes a connection off the lists for its turn. Returns false where it waits for a time: it is cut, or it has none.
+    /// Takes a connection off what waits for a time, for its turn. Returns false where it waits for a time: it is cut, or it has none.
     pub(crate) fn begin_turn(&mut self, token: usize, link: &mut Link<'d, LATEST>) -> bool {
-        link.is_listed = false;
         self.look_at_clock();
-        let Some(awaited) = link.awaited else {
+        let Some(awaited) = link.pipe.awaited else {
             return true;
         };
-        if link.is_cut {
-            link.awaited = None;
+        if link.pipe.is_cut {
+            link.pipe.awaited = None;
             self.worker.waiting.remove(token, awaited);
         }
-        link.is_cut
+        link.pipe.is_cut
     }
 
     /// Ends a connection: its socket is closed, and its slot is free.
     pub(crate) fn close(&mut self, token: usize, link: Box<Link<'d, LATEST>, Global>) {
-        let (ended, door, place) = (link.end(), link.door, link.place);
+        let (ended, door, place) = (link.pipe.end(), link.door, link.place);
         drop(link);
         self.worker.links.free(token);
         self.teller.tell(self.rt, LinkEvent::Ended(ended));
@@ -94,10 +93,9 @@ impl<'w, 'd, R: Wait + Clock + 'w, const LATEST: u8> Reactor<'w, 'd, R, LATEST> 
             self.refuse(link.door, link.place);
             return;
         };
-        link.is_listed = false;
         let registry = self.poll.registry();
-        if link.socket.register(registry, Token(token)).is_err() {
-            link.cut(Ended::Memory);
+        if link.pipe.socket.register(registry, Token(token)).is_err() {
+            link.pipe.cut(Ended::Memory);
         }
         self.worker.put_listed(token, link);
     }
@@ -106,6 +104,6 @@ impl<'w, 'd, R: Wait + Clock + 'w, const LATEST: u8> Reactor<'w, 'd, R, LATEST> 
     /// it can be.
     pub(crate) fn lets_leave(&mut self, link: &mut Link<'d, LATEST>) -> bool {
         link.end_round(self.worker.now);
-        !link.is_cut && link.socket.deregister(self.poll.registry()).is_ok()
+        !link.pipe.is_cut && link.pipe.socket.deregister(self.poll.registry()).is_ok()
     }
 }

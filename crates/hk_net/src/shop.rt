@@ -1,6 +1,6 @@
 //! What all threads of a node share.
 
-use crate::arrivals::Inbox;
+use crate::arrivals::{Arrival, Inbox};
 use crate::doors::{Door, Limits};
 use crate::places::Places;
 use hk_host::Bell;
@@ -30,7 +30,7 @@ pub(crate) struct Staff<'d> {
 pub(crate) struct Shop<'d, J: NodeName, N: Wait + Drop, const LATEST: u8> {
     pub(crate) doors: Vec<Door<'d, J, N>>,
     /// What is left for each worker.
-    pub(crate) inboxes: Vec<Inbox<'d, J, LATEST>>,
+    pub(crate) inboxes: Vec<Inbox<Arrival<'d, J, LATEST>>>,
     pub(crate) staff: Staff<'d>,
 }
 

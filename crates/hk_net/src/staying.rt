@@ -4,7 +4,7 @@ ghost use Rattle.std.specs.Prelude.{◌≡◌};
 ghost use Rattle.std.specs.Thread.{IsSend, IsSync};
 
 use crate::accepting::accept_all;
-use crate::arrivals::Inbox;
+use crate::arrivals::{Arrival, Inbox};
 use crate::doors::{Door, Limits};
 use crate::places::Places;
 use crate::serving::{Tools, serve_worker};
@@ -62,7 +62,7 @@ fn places_of<J: NodeName, N: Wait + Drop>(
 fn inboxes_of<'d, J: NodeName, const LATEST: u8>(
     alloc: Global,
     count: usize,
-) -> Result<Vec<Inbox<'d, J, LATEST>>, AllocError> {
+) -> Result<Vec<Inbox<Arrival<'d, J, LATEST>>>, AllocError> {
     let mut inboxes = Vec::with_capacity(alloc, count)?;
     for _ in 0..count {
         inboxes.push(Inbox::new(alloc))?;

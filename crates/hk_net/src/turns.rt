@@ -2,7 +2,7 @@
 
 ghost use Rattle.std.specs.Prelude.{◌≡◌, ◌≤◌, length};
 
-use crate::link::Link;
+use crate::link::{Link, Pipe};
 use crate::writing::MOST_HELD;
 use hk_doors::Passes;
 use hk_link::{LinkState, NodeSide, PartsHost};
@@ -77,7 +77,7 @@ fn release_some<H: NodeSide + Drop>(both: &mut PartsHost<'_, H>) -> bool
     true
 }
 
-impl<'d, const LATEST: u8> Link<'d, LATEST> {
+impl Pipe<'_> {
     /// What a connection does next whose socket takes no more, or has a lot.
     fn until_written(&self) -> Turn {
         if self.unwritten.is_writable() {
@@ -87,118 +87,9 @@ impl<'d, const LATEST: u8> Link<'d, LATEST> {
         }
     }
 
-    /// Ends the session at the end of its input; these bytes began a frame.
-    fn end_input<H: Host>(&mut self, begun: &[u8], out: &mut Vec<u8>, host: &mut H) -> Step
-        requires { H.ready host.old }
-        ensures { H.ready host.new }
-    {
-        let step = self.session.take(begun, false, out, host);
-        if !matches!(step, Step::GoesOn) {
-            return step;
-        }
-        let session = mem::replace(&mut self.session, Session::new(self.alloc));
-        Step::Ended(session.finish(out))
-    }
-
-    /// Hands on what a read brought, behind what began a frame before.
-    fn take_in<H: Host>(
-        &mut self,
-        moment: Moment,
-        came: &mut [u8],
-        out: &mut Vec<u8>,
-        host: &mut H,
-    ) -> Step
-        requires { H.ready host.old }
-        ensures { H.ready host.new }
-    {
-        let taken = self.watch.take(came, moment.passes, moment.is_at_long_end);
-        if taken.is_long && self.rest.extend_from_slice(&came[taken.count..]).is_err() {
-            return Step::Ended(Ended::Memory);
-        }
-        self.session.take(&came[..taken.count], false, out, host)
-    }
-
     /// Whether the read that is made now, inside a frame, is one too many for it.
     fn reads_too_often(&mut self, moment: Moment) -> bool {
         moment.counts_reads && self.watch.is_within() && self.watch.is_one_too_many()
-    }
-
-    /// Reads once, and answers what is complete. `None` where nothing is there to read.
-    fn read<H: Host>(
-        &mut self,
-        moment: Moment,
-        piece: &mut [u8],
-        out: &mut Vec<u8>,
-        host: &mut H,
-    ) -> Option<Step>
-        requires { H.ready host.old }
-        ensures ready { H.ready host.new }
-        ensures kept { length piece.new ≡ length piece.old }
-    {
-        let begun = self.watch.put_begun(piece);
-        match self.socket.read(&mut piece[begun..]) {
-            Ok(0) => Some(self.end_input(&piece[..begun], out, host)),
-            Ok(count) => {
-                self.meters.note_read(count as u64);
-                self.since = moment.now;
-                if self.reads_too_often(moment) {
-                    return Some(Step::Ended(Ended::ReadFault));
-                }
-                // A read that doesn't fill its buffer took all that had come: the system tells what comes next.
-                if count < piece.len() - begun && !self.is_special {
-                    self.is_readable = false;
-                }
-                let step = self.take_in(moment, &mut piece[..begun + count], out, host);
-                // The frame that isn't complete, or that is for another worker, began with these bytes.
-                let held = self.watch.held().saturating_add(self.rest.len() as u64);
-                if held <= count as u64 {
-                    self.frame_since = moment.now;
-                }
-                Some(step)
-            }
-            Err(error) => match error.kind() {
-                ErrorKind::WouldBlock => {
-                    self.is_readable = false;
-                    None
-                }
-                ErrorKind::Interrupted => Some(Step::GoesOn),
-                _ => Some(Step::Ended(Ended::ReadFault)),
-            },
-        }
-    }
-
-    /// Hands on what an earlier worker had read.
-    fn take_rest<H: Host>(&mut self, moment: Moment, out: &mut Vec<u8>, host: &mut H) -> Step
-        requires { H.ready host.old }
-        ensures { H.ready host.new }
-    {
-        let mut rest = mem::replace(&mut self.rest, Vec::new(self.alloc));
-        self.take_in(moment, &mut rest, out, host)
-    }
-
-    /// Answers what waits, or what is there to read. `None` where nothing is.
-    fn step<H: Host>(
-        &mut self,
-        moment: Moment,
-        piece: &mut [u8],
-        out: &mut Vec<u8>,
-        host: &mut H,
-    ) -> Option<Step>
-        requires { H.ready host.old }
-        ensures ready { H.ready host.new }
-        ensures kept { length piece.new ≡ length piece.old }
-    {
-        if self.is_full || self.has_waited {
-            let has_waited = mem::replace(&mut self.has_waited, false);
-            return Some(self.session.take(&[], has_waited, out, host));
-        }
-        if !self.rest.is_empty() {
-            return Some(self.take_rest(moment, out, host));
-        }
-        if !self.is_readable {
-            return None;
-        }
-        self.read(moment, piece, out, host)
     }
 
     /// Notes how far the session is. An Await whose time is readable, or that waits for no time at all, is answered by the next step.
@@ -260,54 +151,6 @@ impl<'d, const LATEST: u8> Link<'d, LATEST> {
         self.awaited.is_none() && (is_held || self.is_readable)
     }
 
-    /// Writes what stands after the turns of a round, and reserves room for what still does. Returns whether the connection has a turn
-    /// in the next one.
-    pub(crate) fn end_round(&mut self, now: u64) -> bool {
-        self.write(now);
-        self.reserve();
-        let is_stopped = !self.unwritten.is_empty() || self.has_more();
-        self.is_cut || self.unwritten.is_writable() && is_stopped
-    }
-
-    /// One after the other what can be done now, until the session ends.
-    fn steps<H: Host>(
-        &mut self,
-        moment: Moment,
-        piece: &mut [u8],
-        out: &mut Vec<u8>,
-        host: &mut H,
-    ) -> Turn
-        requires { H.ready host.old }
-        ensures { H.ready host.new }
-    {
-        for _ in 0..MOST_READS {
-            if self.unwritten.len() > MOST_HELD {
-                return self.until_written();
-            }
-            if self.has_to_move(moment) {
-                return Turn::Moves;
-            }
-            let Some(step) = self.step(moment, piece, out, host) else {
-                return Turn::Waits;
-            };
-            let turn = self.note_step(step, moment.readable);
-            if !out.is_empty() {
-                self.since = moment.now;
-            }
-            let is_put = self.unwritten.put(&self.socket, out, moment.is_at_long_end);
-            if !is_put {
-                self.cut(Ended::WriteFault);
-            }
-            if self.ended.is_some() {
-                return Turn::Again;
-            }
-            if let Some(turn) = turn {
-                return turn;
-            }
-        }
-        Turn::Again
-    }
-
     /// What is done once the session has ended: its last replies are written, the socket is closed for writing, and what it still
     /// sends is read and dropped for a while. A connection that is closed over bytes that nobody read is cut off, and the peer
     /// could lose what was written.
@@ -352,6 +195,177 @@ impl<'d, const LATEST: u8> Link<'d, LATEST> {
     fn unless_cut(&self, turn: Turn) -> Turn {
         if self.is_cut { Turn::Again } else { turn }
     }
+}
+
+impl<'d, const LATEST: u8> Link<'d, LATEST> {
+    /// Ends the session at the end of its input; these bytes began a frame.
+    fn end_input<H: Host>(&mut self, begun: &[u8], out: &mut Vec<u8>, host: &mut H) -> Step
+        requires { H.ready host.old }
+        ensures { H.ready host.new }
+    {
+        let step = self.session.take(begun, false, out, host);
+        if !matches!(step, Step::GoesOn) {
+            return step;
+        }
+        let session = mem::replace(&mut self.session, Session::new(self.pipe.alloc));
+        Step::Ended(session.finish(out))
+    }
+
+    /// Hands on what a read brought, behind what began a frame before.
+    fn take_in<H: Host>(
+        &mut self,
+        moment: Moment,
+        came: &mut [u8],
+        out: &mut Vec<u8>,
+        host: &mut H,
+    ) -> Step
+        requires { H.ready host.old }
+        ensures { H.ready host.new }
+    {
+        let taken = self
+            .pipe
+            .watch
+            .take(came, moment.passes, moment.is_at_long_end);
+        if taken.is_long
+            && self
+                .pipe
+                .rest
+                .extend_from_slice(&came[taken.count..])
+                .is_err()
+        {
+            return Step::Ended(Ended::Memory);
+        }
+        self.session.take(&came[..taken.count], false, out, host)
+    }
+
+    /// Reads once, and answers what is complete. `None` where nothing is there to read.
+    fn read<H: Host>(
+        &mut self,
+        moment: Moment,
+        piece: &mut [u8],
+        out: &mut Vec<u8>,
+        host: &mut H,
+    ) -> Option<Step>
+        requires { H.ready host.old }
+        ensures ready { H.ready host.new }
+        ensures kept { length piece.new ≡ length piece.old }
+    {
+        let begun = self.pipe.watch.put_begun(piece);
+        match self.pipe.socket.read(&mut piece[begun..]) {
+            Ok(0) => Some(self.end_input(&piece[..begun], out, host)),
+            Ok(count) => {
+                self.pipe.meters.note_read(count as u64);
+                self.pipe.since = moment.now;
+                if self.pipe.reads_too_often(moment) {
+                    return Some(Step::Ended(Ended::ReadFault));
+                }
+                // A read that doesn't fill its buffer took all that had come: the system tells what comes next.
+                if count < piece.len() - begun && !self.pipe.is_special {
+                    self.pipe.is_readable = false;
+                }
+                let step = self.take_in(moment, &mut piece[..begun + count], out, host);
+                // The frame that isn't complete, or that is for another worker, began with these bytes.
+                let held = self.pipe.held();
+                if held <= count as u64 {
+                    self.pipe.frame_since = moment.now;
+                }
+                Some(step)
+            }
+            Err(error) => match error.kind() {
+                ErrorKind::WouldBlock => {
+                    self.pipe.is_readable = false;
+                    None
+                }
+                ErrorKind::Interrupted => Some(Step::GoesOn),
+                _ => Some(Step::Ended(Ended::ReadFault)),
+            },
+        }
+    }
+
+    /// Hands on what an earlier worker had read.
+    fn take_rest<H: Host>(&mut self, moment: Moment, out: &mut Vec<u8>, host: &mut H) -> Step
+        requires { H.ready host.old }
+        ensures { H.ready host.new }
+    {
+        let mut rest = mem::replace(&mut self.pipe.rest, Vec::new(self.pipe.alloc));
+        self.take_in(moment, &mut rest, out, host)
+    }
+
+    /// Answers what waits, or what is there to read. `None` where nothing is.
+    fn step<H: Host>(
+        &mut self,
+        moment: Moment,
+        piece: &mut [u8],
+        out: &mut Vec<u8>,
+        host: &mut H,
+    ) -> Option<Step>
+        requires { H.ready host.old }
+        ensures ready { H.ready host.new }
+        ensures kept { length piece.new ≡ length piece.old }
+    {
+        if self.pipe.is_full || self.pipe.has_waited {
+            let has_waited = mem::replace(&mut self.pipe.has_waited, false);
+            return Some(self.session.take(&[], has_waited, out, host));
+        }
+        if !self.pipe.rest.is_empty() {
+            return Some(self.take_rest(moment, out, host));
+        }
+        if !self.pipe.is_readable {
+            return None;
+        }
+        self.read(moment, piece, out, host)
+    }
+
+    /// Writes what stands after the turns of a round, and reserves room for what still does. Returns whether the connection has a turn
+    /// in the next one.
+    pub(crate) fn end_round(&mut self, now: u64) -> bool {
+        self.pipe.write(now);
+        self.reserve();
+        let is_stopped = !self.pipe.unwritten.is_empty() || self.pipe.has_more();
+        self.pipe.is_cut || self.pipe.unwritten.is_writable() && is_stopped
+    }
+
+    /// One after the other what can be done now, until the session ends.
+    fn steps<H: Host>(
+        &mut self,
+        moment: Moment,
+        piece: &mut [u8],
+        out: &mut Vec<u8>,
+        host: &mut H,
+    ) -> Turn
+        requires { H.ready host.old }
+        ensures { H.ready host.new }
+    {
+        for _ in 0..MOST_READS {
+            if self.pipe.unwritten.len() > MOST_HELD {
+                return self.pipe.until_written();
+            }
+            if self.pipe.has_to_move(moment) {
+                return Turn::Moves;
+            }
+            let Some(step) = self.step(moment, piece, out, host) else {
+                return Turn::Waits;
+            };
+            let turn = self.pipe.note_step(step, moment.readable);
+            if !out.is_empty() {
+                self.pipe.since = moment.now;
+            }
+            let is_put = self
+                .pipe
+                .unwritten
+                .put(&self.pipe.socket, out, moment.is_at_long_end);
+            if !is_put {
+                self.pipe.cut(Ended::WriteFault);
+            }
+            if self.pipe.ended.is_some() {
+                return Turn::Again;
+            }
+            if let Some(turn) = turn {
+                return turn;
+            }
+        }
+        Turn::Again
+    }
 
     /// Keeps what is kept beside the worker's seat.
     fn keep(&mut self, kept: LinkState<'d>) {
@@ -391,22 +405,22 @@ impl<'d, const LATEST: u8> Link<'d, LATEST> {
     ) -> (Turn, H)
         requires { H.ready host }
     {
-        self.write(moment.now);
+        self.pipe.write(moment.now);
         let Some(kept) = self.take_kept() else {
-            return (self.linger(moment, piece), host);
+            return (self.pipe.linger(moment, piece), host);
         };
-        if self.ended.is_some() {
+        if self.pipe.ended.is_some() {
             return self.end_session(moment, host, kept, left);
         }
         let mut both = PartsHost::new(host, kept);
         let turn = self.steps(moment, piece, out, &mut both);
         let (host, kept) = both.into_parts();
-        if self.ended.is_some() {
+        if self.pipe.ended.is_some() {
             return self.end_session(moment, host, kept, left);
         }
         self.keep(kept);
         self.reserve_much();
-        (self.unless_cut(turn), host)
+        (self.pipe.unless_cut(turn), host)
     }
 
     /// What is done with the pins of a session that has ended: of many some in each round, and then the others.

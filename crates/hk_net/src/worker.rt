@@ -24,7 +24,7 @@ const LOOK_PAUSE: u64 = 100;
 pub(crate) struct Worker<'d, const LATEST: u8> {
     pub(crate) alloc: Global,
     pub(crate) number: usize,
-    pub(crate) links: Links<'d, LATEST>,
+    pub(crate) links: Links<Link<'d, LATEST>>,
     pub(crate) waiting: Waiting,
     pub(crate) piece: Vec<u8>,
     pub(crate) out: Vec<u8>,
@@ -81,15 +81,18 @@ impl<'d, const LATEST: u8> Worker<'d, LATEST> {
                 continue;
             }
             let is_special = event.is_read_closed() || event.is_error() || event.is_priority();
-            self.links.note(
-                token,
-                Readiness {
-                    is_readable: event.is_readable() || is_special,
-                    is_writable: event.is_writable(),
-                    is_special,
-                    is_broken: event.is_error() || event.is_write_closed(),
-                },
-            );
+            let told = Readiness {
+                is_readable: event.is_readable() || is_special,
+                is_writable: event.is_writable(),
+                is_special,
+                is_broken: event.is_error() || event.is_write_closed(),
+            };
+            let Some(link) = self.links.get_mut(token) else {
+                continue;
+            };
+            if link.pipe.note(told) {
+                self.links.list(token);
+            }
         }
         is_woken
     }
@@ -103,12 +106,12 @@ impl<'d, const LATEST: u8> Worker<'d, LATEST> {
             let Some(link) = self.links.get_mut(token) else {
                 continue;
             };
-            if let Some(awaited) = link.awaited.take() {
+            if let Some(awaited) = link.pipe.awaited.take() {
                 self.waiting.remove(token, awaited);
             }
-            link.has_waited = true;
-            link.since = self.now;
-            link.frame_since = self.now;
+            link.pipe.has_waited = true;
+            link.pipe.since = self.now;
+            link.pipe.frame_since = self.now;
             self.links.list(token);
         }
     }
@@ -123,7 +126,7 @@ impl<'d, const LATEST: u8> Worker<'d, LATEST> {
                 continue;
             };
             let has_turn = link.end_round(self.now);
-            self.is_timed = self.is_timed || link.is_timed(limits);
+            self.is_timed = self.is_timed || link.pipe.is_timed(limits);
             if has_turn {
                 self.links.list(token);
             }
@@ -141,9 +144,9 @@ impl<'d, const LATEST: u8> Worker<'d, LATEST> {
             let Some(link) = self.links.get_mut(token) else {
                 continue;
             };
-            is_timed = is_timed || link.is_timed(limits);
-            if let Some(ended) = link.over_time(self.now, limits) {
-                link.cut(ended);
+            is_timed = is_timed || link.pipe.is_timed(limits);
+            if let Some(ended) = link.pipe.over_time(self.now, limits) {
+                link.pipe.cut(ended);
                 self.links.list(token);
             }
         }
@@ -159,7 +162,7 @@ impl<'d, const LATEST: u8> Worker<'d, LATEST> {
     /// Ends a connection as it is, at its next turn.
     pub(crate) fn cut(&mut self, token: usize, link: Box<Link<'d, LATEST>, Global>) {
         let mut link = link;
-        link.cut(Ended::Memory);
+        link.pipe.cut(Ended::Memory);
         self.put_listed(token, link);
     }
 
@@ -180,10 +183,10 @@ impl<'d, const LATEST: u8> Worker<'d, LATEST> {
             .saturating_add(1);
         let awaited = Awaited { number, until };
         if self.waiting.add(token, awaited).is_ok() {
-            link.awaited = Some(awaited);
+            link.pipe.awaited = Some(awaited);
             self.links.put(token, link);
         } else {
-            link.has_waited = true;
+            link.pipe.has_waited = true;
             self.put_listed(token, link);
         }
     }
