@@ -13,6 +13,9 @@ use std::alloc::Global;
 use std::rt::Clock;
 use std::sync::Wait;
 
+/// A change that takes so many milliseconds at a worker for long answers is one with which the node's second copy catches up.
+const LONG_CHANGE: u64 = 20;
+
 /// The sockets that a worker waits for, who is notified, and its connections.
 #[derive(Drop)]
 pub(crate) struct Reactor<'w, 'd, R: Wait + Clock + 'w, const LATEST: u8> {
@@ -57,6 +60,17 @@ impl<'w, 'd, R: Wait + Clock + 'w, const LATEST: u8> Reactor<'w, 'd, R, LATEST> 
             self.worker.waiting.remove(token, awaited);
         }
         link.is_cut
+    }
+
+    /// Notes a turn that began at this moment, of a connection of a door, and in which the node changed: where it took long, the node's
+    /// second copy has to catch up.
+    pub(crate) fn note_change(&mut self, moment: Moment, door: usize) {
+        self.look_at_clock();
+        let took = self.worker.now.saturating_sub(moment.now);
+        let is_its_own = moment.is_at_long_end && !matches!(moment.passes, Passes::Readings);
+        if is_its_own && took >= LONG_CHANGE {
+            self.worker.behind = Some(door);
+        }
     }
 
     /// Ends a connection: its socket is closed, and its slot is free.

@@ -92,7 +92,11 @@ impl<
         let Some(seat) = self.seat.take() else {
             return Turn::Over;
         };
+        let seen = seat.seen();
         let (turn, seat) = self.turn_on(door, moment, link, seat);
+        if seen < seat.seen() {
+            self.reactor.note_change(moment, link.door);
+        }
         self.seat = Some(seat);
         turn
     }
@@ -224,6 +228,26 @@ impl<
         }
     }
 
+    /// Has the node's second copy catch up with a change that took long, in a later round in which no connection has a turn: else the next
+    /// change, whoever makes it, would pay for both copies.
+    fn catch_up(&mut self) {
+        if self.reactor.worker.links.has_listed() {
+            return;
+        }
+        let Some(door) = self.reactor.worker.behind.take() else {
+            return;
+        };
+        if let Some(
+            Door {
+                way: Way::Open(node) | Way::Feeding(node),
+                ..
+            },
+        ) = self.shop.doors.get(door)
+        {
+            node.settle(self.reactor.rt);
+        }
+    }
+
     /// One round: what the system said, what others left, who waited long enough, and the turns of those that can go on.
     fn round(&mut self, events: &Events) {
         self.reactor.look_at_clock();
@@ -233,6 +257,7 @@ impl<
         let staff = &self.shop.staff;
         self.reactor.worker.wake_due(staff.bell.readable());
         self.reactor.worker.look_at_limits(&staff.limits);
+        self.catch_up();
         self.take_turns();
     }
 }

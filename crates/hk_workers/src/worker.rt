@@ -36,6 +36,8 @@ pub(crate) struct Worker<'d, const LATEST: u8> {
     pub(crate) is_timed: bool,
     /// Whether a connection with many pins ended in this round.
     pub(crate) has_freed: bool,
+    /// The door of a change that took long, with which the node's second copy has yet to catch up.
+    pub(crate) behind: Option<usize>,
 }
 
 impl<'d, const LATEST: u8> Worker<'d, LATEST> {
@@ -53,12 +55,14 @@ impl<'d, const LATEST: u8> Worker<'d, LATEST> {
             look: 0,
             is_timed: false,
             has_freed: false,
+            behind: None,
         }
     }
 
     /// For how long the worker sleeps, where nothing happens.
     pub(crate) fn time_out(&self, readable: u64) -> Option<Duration> {
-        if self.links.has_listed() || self.waiting.is_due(readable, self.now) {
+        let is_due = self.waiting.is_due(readable, self.now);
+        if is_due || self.behind.is_some() || self.links.has_listed() {
             return Some(Duration::from_millis(0));
         }
         let look = if self.is_timed { Some(self.look) } else { None };
