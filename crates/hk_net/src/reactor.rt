@@ -72,17 +72,6 @@ impl<'w, 'd, R: Wait + Clock + 'w, const LATEST: u8> Reactor<'w, 'd, R, LATEST> 
         }
     }
 
-    /// Notes a turn that began at this moment, of a connection of a door, and in which the node changed: where it took long, the node's
-    /// second copy has to catch up.
-    pub(crate) fn note_change(&mut self, moment: Moment, door: usize) {
-        self.look_at_clock();
-        let took = self.worker.now.saturating_sub(moment.now);
-        let is_its_own = moment.is_at_long_end && !matches!(moment.passes, Passes::Readings);
-        if is_its_own && took >= LONG_CHANGE {
-            self.worker.behind = Some(door);
-        }
-    }
-
     /// Ends a connection: its socket is closed, and its slot is free.
     pub(crate) fn close(&mut self, token: usize, link: Box<Link<'d, LATEST>, Global>) {
         let (ended, door, place) = (link.pipe.end(), link.door, link.place);
