@@ -411,10 +411,5 @@ where
     let host = NodeHost::new(rt, rt.alloc(), node, seat);
     let (host, has_file) = taken_of_file(rt, heads, start.file, host, output);
     let (host, has_node) = taken_of_first(rt, heads, &start.sources, host, output);
-    let (seat, has_data) = (host.into_seat(), has_file || has_node);
-    if has_data {
-        // Else the first change would also pay for all of this, on the node's second copy.
-        node.settle(rt);
-    }
-    (seat, has_data)
+    (host.into_seat(), has_file || has_node)
 }

@@ -293,12 +293,18 @@ pub(crate) fn serve_worker<
         piece,
         mut events,
     } = tools;
+    // One worker for long answers has the second copy take what the node took before it listened.
+    let behind = if number == shop.staff.short_workers() {
+        Some(0)
+    } else {
+        None
+    };
     let reactor = Reactor {
         rt,
         staff: &shop.staff,
         poll,
         teller,
-        worker: Worker::new(alloc, number, piece),
+        worker: Worker::new(alloc, number, piece, behind),
     };
     let mut serving = Serving {
         shop,

@@ -41,8 +41,13 @@ pub(crate) struct Worker<'d, const LATEST: u8> {
 }
 
 impl<'d, const LATEST: u8> Worker<'d, LATEST> {
-    /// A worker without connections, with a buffer for what it reads.
-    pub(crate) fn new(alloc: Global, number: usize, piece: Vec<u8>) -> Worker<'d, LATEST> {
+    /// A worker without connections, with a buffer for what it reads, and the door of the node that has yet to catch up.
+    pub(crate) fn new(
+        alloc: Global,
+        number: usize,
+        piece: Vec<u8>,
+        behind: Option<usize>,
+    ) -> Worker<'d, LATEST> {
         Worker {
             alloc,
             number,
@@ -55,7 +60,7 @@ impl<'d, const LATEST: u8> Worker<'d, LATEST> {
             look: 0,
             is_timed: false,
             has_freed: false,
-            behind: None,
+            behind,
         }
     }
 
