@@ -117,6 +117,16 @@ impl Pipe<'_> {
         None
     }
 
+    /// Takes what a step added, and writes what is long. Where the socket failed, or memory ran out, the connection ends.
+    fn put(&mut self, moment: Moment, out: &mut Vec<u8>) {
+        if !out.is_empty() {
+            self.since = moment.now;
+        }
+        if !self.unwritten.put(&self.socket, out, moment.is_at_long_end) {
+            self.cut(Ended::WriteFault);
+        }
+    }
+
     /// Whether its next request is for a worker that gives long answers, and this isn't one.
     fn has_to_move(&self, moment: Moment) -> bool {
         !moment.is_at_long_end && !self.rest.is_empty() && !self.is_full && !self.has_waited
@@ -287,7 +297,8 @@ impl<'d, const LATEST: u8> Link<'d, LATEST> {
         requires { H.ready host.old }
         ensures { H.ready host.new }
     {
-        let mut rest = mem::replace(&mut self.pipe.rest, Vec::new(self.pipe.alloc));
+        let alloc = self.pipe.alloc;
+        let mut rest = mem::replace(&mut self.pipe.rest, Vec::new(alloc));
         self.take_in(moment, &mut rest, out, host)
     }
 
@@ -347,16 +358,7 @@ impl<'d, const LATEST: u8> Link<'d, LATEST> {
                 return Turn::Waits;
             };
             let turn = self.pipe.note_step(step, moment.readable);
-            if !out.is_empty() {
-                self.pipe.since = moment.now;
-            }
-            let is_put = self
-                .pipe
-                .unwritten
-                .put(&self.pipe.socket, out, moment.is_at_long_end);
-            if !is_put {
-                self.pipe.cut(Ended::WriteFault);
-            }
+            self.pipe.put(moment, out);
             if self.pipe.ended.is_some() {
                 return Turn::Again;
             }
