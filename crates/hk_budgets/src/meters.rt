@@ -3,7 +3,7 @@
 ghost use Rattle.std.specs.Prelude.{◌≤◌};
 
 use crate::parts_budget::PartsBudget;
-use hk_values::{Metric, metric_names as names};
+use hk_answers::{Metric, metric_names as names};
 use std::alloc::{AllocError, Global};
 use std::fs::File;
 use std::os::unix::fs::FileExt;

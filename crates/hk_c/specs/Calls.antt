@@ -14,7 +14,7 @@ use Rattle.hk_model.specs.Replica.Answers.{AnswerValue, reply, One, Rows, Number
 use Rattle.hk_model.specs.Replica.Content.{Content, readable}
 use Rattle.hk_model.specs.Replica.Fragments.{cut}
 use Rattle.hk_codec.specs.Frames.{Adds, Feeds, KeepsFault, KeepsOnMemory, last_answer}
-use Rattle.hk_values.specs.Answers.{keyed_text}
+use Rattle.hk_answers.specs.Answers.{keyed_text}
 use Rattle.hk_wire.specs.declared.reply.Reply.{Reply}
 use Rattle.hk_wire.specs.declared.reply.Reply.TheVariants as replied
 use Rattle.hk_wire.specs.declared.later_reply.LaterReply.{LaterReply}

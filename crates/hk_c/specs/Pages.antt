@@ -12,7 +12,7 @@ use Rattle.hk_model.specs.Replica.Answers.{AnswerValue}
 use Rattle.hk_model.specs.Replica.Content.{Content}
 use Rattle.hk_model.specs.Replica.Pages.{PageValue, answered_rows, page_seen}
 use Rattle.hk_query.specs.Pages.{last_key, range_page}
-use Rattle.hk_values.specs.Answers.{keyed_text}
+use Rattle.hk_answers.specs.Answers.{keyed_text}
 use Rattle.hk_c.specs.declared.found.Paged.{Paged}
 use Rattle.hk_c.specs.Values.{ReplicaValue}
 use Rattle.hk_c.specs.Calls.{asked_reply, copied_into}

@@ -2,7 +2,7 @@
 use Rattle.std.specs.Prelude.{ℕ, Bool, true, ◌||◌, not, ◌==◌, if◌then◌else◌, List, [], ◌∷◌, ◌++◌, length, codes}
 use Rattle.std.specs.List.{flat_map}
 use Rattle.std.specs.Fmt.{decimal}
-use Rattle.hk_values.specs.declared.metrics.Metric.{Metric}
+use Rattle.hk_answers.specs.declared.metrics.Metric.{Metric}
 use Rattle.hk_cli_lines.specs.Lines.{line_end}
 
 -- ---- numbers

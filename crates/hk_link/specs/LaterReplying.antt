@@ -30,7 +30,7 @@ use Rattle.hk_link.specs.LinkStates.{LinkValue, OutgoingValue, more_step, whole_
 use Rattle.hk_budgets.specs.Budgets.{most_pins}
 use Rattle.hk_link.specs.NodeNumbers.{AreSizesOf, AreTablesOf, sizes_metrics}
 use Rattle.hk_link.specs.NodeSides.{Sided, cut_of}
-use Rattle.hk_values.specs.declared.metrics.Metric.{Metric}
+use Rattle.hk_answers.specs.declared.metrics.Metric.{Metric}
 
 -- what the node of a host for version 1 holds, by the list that its seat knows
 abbrev pub content_of : {S : Type 0} → Sided S → LinkValue S → NodeContent

@@ -1,6 +1,6 @@
 -- The numbers of a node, and the tables that it holds.
 use Rattle.std.specs.Prelude.{◌≡◌, ℕ, Bool, if◌then◌else◌, List, [], ◌∷◌, length}
-use Rattle.hk_values.specs.declared.metrics.Metric.{Metric}
+use Rattle.hk_answers.specs.declared.metrics.Metric.{Metric}
 use Rattle.hk_store.specs.Reads.{facts_of_content}
 use Rattle.hk_store.specs.TableLists.{AreTables}
 use Rattle.hk_oplog.specs.declared.sizes.NodeSizes.{NodeSizes}

@@ -6,8 +6,8 @@ use Rattle.hk_codec.specs.Encoding.{WrittenItem}
 use Rattle.hk_codec.specs.Reading.{item_at}
 use Rattle.hk_codec.specs.Frames.{frame_at}
 use Rattle.hk_frames.specs.Fields.{check, byte_at, number_at, bytes_at}
-use Rattle.hk_values.specs.Readers.{both, time_at, positive_at}
-use Rattle.hk_values.specs.Queries.{query_at}
+use Rattle.hk_answers.specs.Readers.{both, time_at, positive_at}
+use Rattle.hk_answers.specs.Queries.{query_at}
 use Rattle.hk_values.specs.Fragments.{fragment_at, whole_at}
 use Rattle.hk_values.specs.Parts.{head_at, whole_head_at, part_at}
 use Rattle.hk_wire.specs.declared.request.Request.{Request}

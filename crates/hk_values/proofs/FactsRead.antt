@@ -15,11 +15,11 @@ use Rattle.hk_fragment.specs.Parts as parts
 use Rattle.hk_fragment.proofs.FragmentRules.{listed}
 use Rattle.hk_frames.specs.Fields.{◌>>=◌, check, byte_at, number_at, list_at}
 use Rattle.hk_frames.proofs.ReadingSteps.{bind_ok, check_ok, ok_is, neither}
-use Rattle.hk_values.specs.Readers.{Reader, both, fault_where, mapped_value, by_kind, time_at}
-use Rattle.hk_values.specs.Answers.{row_at}
+use Rattle.hk_answers.specs.Readers.{Reader, both, fault_where, mapped_value, by_kind, time_at}
+use Rattle.hk_answers.specs.Answers.{row_at}
 use Rattle.hk_values.specs.Fragments.{version_at, died_at, known_of, fact_at, streams_at, fragment_head_at, fragment_at, wire_fragment_of, wire_stream_of, least_closed_of}
 use Rattle.hk_values.specs.FragmentSteps.{fact_list_at, streams_at as several_at}
-use Rattle.hk_values.proofs.ReadersAndEncodings.{this_or}
+use Rattle.hk_answers.proofs.ReadersAndEncodings.{this_or}
 use Rattle.hk_values.proofs.StreamsRead.{least_seen}
 
 -- a value that was read is not barred

@@ -24,9 +24,9 @@ use Rattle.hk_model.proofs.Replica.Visible.{T_both}
 use Rattle.hk_marks.specs.Seen.{IsNumbered}
 use Rattle.hk_marks.specs.Steps.{extra_numbers}
 use Rattle.hk_fragment.specs.Parts.{Known, versions_listed, follows, is_valid_row, is_valid_end, is_valid_fact, facts_fault}
-use Rattle.hk_values.specs.Readers.{Chained}
-use Rattle.hk_values.specs.Answers.{PresentFits}
-use Rattle.hk_values.specs.Fragments.{greatest_reached, wire_stream_of, wire_fragment_of, number_follows, least_closed_of, ExtraFits, WaitingFits, StreamFits, FactFits, PartsFit, DiedFits, KnownFits, FragmentFits}
+use Rattle.hk_answers.specs.Readers.{Chained, DiedFits}
+use Rattle.hk_answers.specs.Answers.{PresentFits}
+use Rattle.hk_values.specs.Fragments.{greatest_reached, wire_stream_of, wire_fragment_of, number_follows, least_closed_of, ExtraFits, WaitingFits, StreamFits, FactFits, PartsFit, KnownFits, FragmentFits}
 use Rattle.hk_values.proofs.OneWireFragment.{greatest_covered_too, reached_law, extra_told}
 
 first : (a b : Bool) → (a && b) ≡ true → a ≡ true

@@ -6,16 +6,16 @@ use Rattle.std.proofs.lemmas.Bool.{ltb-true, lt-ltb, ltb-false, le-ltb, leb-true
 use Rattle.hk_types.specs.Values.{RowValue}
 use Rattle.hk_types.specs.declared.version_key.VersionKey.{VersionKey}
 use Rattle.hk_types.specs.declared.faults.FormFault.{FormFault}
-use Rattle.hk_types.specs.declared.faults.FormFault.TheVariants.{BadStream, BadNumber, BadOrder}
+use Rattle.hk_types.specs.declared.faults.FormFault.TheVariants.{BadNumber, BadOrder}
 use Rattle.hk_log.specs.Versions.{VersionValue}
 use Rattle.hk_fragment.specs.Parts.{Known, follows, is_valid_end}
 use Rattle.hk_frames.specs.Fields.{IsBytes, ◌>>=◌, number, number_at, list_at}
 use Rattle.hk_frames.proofs.ReadingSteps.{bind_ok, ok_is, neither, both as both_true, Takes, Takes-then}
-use Rattle.hk_values.specs.Readers.{Reader, both, after, fault_where, mapped_value, by_kind, list_by_count, time_at, Chained}
-use Rattle.hk_values.specs.Answers.{row_text, row_at, RowFits}
-use Rattle.hk_values.specs.Fragments.{WireStream, WireFragment, mark_text, extras_text, waits_text, stream_text, known_flags, known_parts, version_text, fact_text, fragment_text, number_follows, extra_at, waiting_count_at, waiting_at, stream_of, stream_at, version_at, died_at, known_of, fact_at, least_closed_of, no_stream, bounds_at, streams_at, stream_count_at, fragment_head_at, facts_at, fragment_at, ExtraFits, WaitingFits, StreamFits, VersionFits, EndFits, PartsFit, FactFits, FragmentFits, stream_is_counted, streams_are_counted, is_counted, whole_at}
-use Rattle.hk_values.proofs.ReadersAndEncodings.{IsField, field16, field64, time_field, both_field, barred_field, same_field, made_field, kinded_field, counted_field, many_field, this_or, made_takes, made_again}
-use Rattle.hk_values.proofs.AnswersReadAgain.{row_field}
+use Rattle.hk_answers.specs.Readers.{Reader, both, after, fault_where, mapped_value, by_kind, list_by_count, time_at, Chained, stream_count_at}
+use Rattle.hk_answers.specs.Answers.{row_text, row_at, RowFits}
+use Rattle.hk_values.specs.Fragments.{WireStream, WireFragment, mark_text, extras_text, waits_text, stream_text, known_flags, known_parts, version_text, fact_text, fragment_text, number_follows, extra_at, waiting_count_at, waiting_at, stream_of, stream_at, version_at, died_at, known_of, fact_at, least_closed_of, no_stream, bounds_at, streams_at, fragment_head_at, facts_at, fragment_at, ExtraFits, WaitingFits, StreamFits, VersionFits, EndFits, PartsFit, FactFits, FragmentFits, stream_is_counted, streams_are_counted, is_counted, whole_at}
+use Rattle.hk_answers.proofs.ReadersAndEncodings.{IsField, field16, field64, time_field, both_field, barred_field, same_field, made_field, kinded_field, counted_field, many_field, this_or, made_takes, made_again, or_false, StreamCount, stream_count_field}
+use Rattle.hk_answers.proofs.AnswersReadAgain.{row_field}
 
 -- one after the other, where how the second is read depends on the first
 pub after_field : {A B : Type 0} (a : Reader A) (b : A → Reader B) (s : A → List ℕ) (t : B → List ℕ) (P : A → Type 0) (Q : A → B → Type 0) → IsField a s P → ((x : A) → IsField (b x) t (Q x)) → IsField (after a b) (λ p. s p.0 ++ t p.1) (λ p. P p.0 × Q p.0 p.1)
@@ -33,10 +33,6 @@ after_field {A = A} {B = B} a b s t P Q f g =
           ∙ ap (λ (r : Result (A × List ℕ) FormFault). r >>= λ x. b x.0 x.1 >>= λ y. Ok ((x.0, y.0), y.1)) (f.again p.0 (t p.1 ++ rest) h.0)
           ∙ ap (λ (r : Result (B × List ℕ) FormFault). r >>= λ y. Ok ((p.0, y.0), y.1)) ((g p.0).again p.1 rest h.1);
     }
-
-pub or_false : (a b : Bool) → a ≡ false → b ≡ false → (a || b) ≡ false
-or_false true b p q = absurd cc
-or_false false b p q = q
 
 -- ---- streams
 
@@ -226,13 +222,6 @@ unfolding bounds_at
 bounds_field =
     barred_field (both time_at time_at) (λ p. not (eqb p.0 0 || leb p.1 p.0)) BadNumber bounds_text (λ p. (p.0 ≤ 2 ^ 62) × (p.1 ≤ 2 ^ 62))
     (both_field time_at time_at (number w64) (number w64) (λ n. n ≤ 2 ^ 62) (λ n. n ≤ 2 ^ 62) time_field time_field)
-
-abbrev pub StreamCount : ℕ → Type 0
-StreamCount n = (n < 2 ^ 16) × ((ltb n 1 || ltb 64 n) ≡ false)
-
-pub stream_count_field : IsField stream_count_at (number w16) StreamCount
-unfolding stream_count_at
-stream_count_field = barred_field (number_at w16) (λ n. ltb n 1 || ltb 64 n) BadStream (number w16) (λ n. n < 2 ^ 16) field16
 
 abbrev pub HeadFits : ℕ × (ℕ × (ℕ × ℕ)) → Type 0
 HeadFits h = (h.0 < 2 ^ 64) × (StreamCount h.1.0 × BoundsFit h.1.1)

@@ -1,7 +1,3 @@
-pub mod ReadersAndEncodings
-pub mod QueriesReadAgain
-pub mod RefusalsReadAgain
-pub mod AnswersReadAgain
 pub mod FragmentsReadAgain
 pub mod Lengths
 pub mod ListsInOrder
@@ -9,14 +5,9 @@ pub mod StreamRead
 pub mod ReadingLoops
 pub mod StreamsRead
 pub mod FactsRead
-pub mod AddedPieces
 pub mod WrittenFragments
 pub mod OneWireFragment
 pub mod FragmentFits
-pub mod ToldLengths
 pub mod PartsReadAgain
-pub mod ToldReadAgain
-pub mod MetricLengths
-pub mod MetricsReadAgain
 pub mod CutParts
 pub mod OwnParts

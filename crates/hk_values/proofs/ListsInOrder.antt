@@ -4,7 +4,7 @@ use Rattle.std.specs.List.{AllByRecursion}
 use Rattle.std.specs.List.Sorted.{IsStrictlySortedBy}
 use Rattle.std.specs.declared.cmp.Ordering.TheVariants.{Less}
 use Rattle.std.proofs.lemmas.Bool.Decides.{nat_tests}
-use Rattle.hk_values.specs.Readers.{Chained}
+use Rattle.hk_answers.specs.Readers.{Chained}
 use Rattle.hk_values.specs.Fragments.{number_follows}
 
 -- the place of the last element, else the place before them all

@@ -11,10 +11,10 @@ use Rattle.hk_marks.specs.Seen.{IsNumbered}
 use Rattle.hk_fragment.specs.Parts.{Known, facts_fault}
 use Rattle.hk_frames.specs.Fields.{number, number_at}
 use Rattle.hk_frames.proofs.ReadingSteps.{bind_ok, both as both_true}
-use Rattle.hk_values.specs.Readers.{Reader, both, after}
+use Rattle.hk_answers.specs.Readers.{Reader, both, after}
 use Rattle.hk_values.specs.FragmentSteps.{fact_list_at}
 use Rattle.hk_values.specs.Fragments.{WireStream, stream_text, facts_text, fragment_head_at, streams_at, streams_are_counted, is_counted, KnownFits}
-use Rattle.hk_values.proofs.ReadersAndEncodings.{IsField, field64, both_field, same_field, made_field, kept_field}
+use Rattle.hk_answers.proofs.ReadersAndEncodings.{IsField, field64, both_field, same_field, made_field, kept_field}
 use Rattle.hk_values.proofs.FragmentsReadAgain.{after_field, FragmentIs, fragment_there, fragment_back, HeadFits as StartFits, AreStreams, head_text as start_text, head_field as start_field, streams_field, facts_field, base_there}
 use Rattle.hk_values.proofs.FragmentFits.{streams_fit, facts_chained, least_same, count_same}
 use Rattle.hk_values.proofs.FactsRead.{facts_stand}

@@ -9,7 +9,7 @@ use Rattle.hk_frames.specs.declared.cursor.ReadError.{ReadError}
 use Rattle.hk_frames.specs.Fields.{Fails}
 use Rattle.hk_frames.proofs.ReadingLoop.{with_front, goes_on, ends, is_done}
 use Rattle.hk_types.specs.declared.faults.FormFault.{FormFault}
-use Rattle.hk_values.specs.Readers.{Chained}
+use Rattle.hk_answers.specs.Readers.{Chained}
 use Rattle.hk_values.specs.Fragments.{extra_at, waiting_at, ExtraFits, WaitingFits}
 use Rattle.hk_values.specs.FragmentSteps.{stream_made, extras_at, waits_at, TakesExtra, TakesWaits, IsReady}
 use Rattle.hk_values.proofs.ListsInOrder.{last_of, last_more, chained_more}

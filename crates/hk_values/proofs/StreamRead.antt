@@ -22,7 +22,7 @@ use Rattle.hk_marks.proofs.TakenItems.{later_comm}
 use Rattle.hk_marks.proofs.StoredStreams.{contains-up_to, covers_seen}
 use Rattle.hk_marks.proofs.Readers.{entries-from_sorted}
 use Rattle.hk_marks.proofs.Prefixes.{len-rising}
-use Rattle.hk_values.specs.Readers.{Chained}
+use Rattle.hk_answers.specs.Readers.{Chained}
 use Rattle.hk_values.specs.Fragments.{greatest_reached, rising_numbers, wire_stream_of, ExtraFits, WaitingFits}
 use Rattle.hk_values.specs.FragmentSteps.{stream_made, stream_without_marks}
 use Rattle.hk_values.proofs.ListsInOrder.{places_rise, chained_more, last_of}

@@ -13,7 +13,7 @@ use Rattle.hk_frames.specs.declared.cursor.ReadError.{ReadError}
 use Rattle.hk_frames.specs.declared.cursor.ReadError.TheVariants.{Memory, Fault}
 use Rattle.hk_frames.specs.Fields.{Fails, number_at, list_at}
 use Rattle.hk_frames.proofs.ReadingLoop.{with_front, goes_on, ends, is_done}
-use Rattle.hk_values.specs.Readers.{time_at}
+use Rattle.hk_answers.specs.Readers.{time_at}
 use Rattle.hk_values.specs.Fragments.{wire_stream_of, stream_at, no_stream, least_closed_of}
 use Rattle.hk_values.specs.FragmentSteps.{stream_without_marks, extras_at, waits_at, streams_at, TakesExtra, TakesWaits, IsReady}
 use Rattle.hk_values.proofs.StreamRead.{raised_unknown, covers_taken, told_back}

@@ -8,8 +8,7 @@ use Rattle.std.proofs.lemmas.List.Concat.{flat_map-cons}
 use Rattle.hk_model.specs.Replica.Streams.{StreamContent, stream_at as content_at, unknown}
 use Rattle.hk_frames.specs.Fields.{number}
 use Rattle.hk_frames.proofs.ReadingSteps.{both as both_true}
-use Rattle.hk_values.specs.Fragments.{WireFragment, wire_stream_of, stream_text, stream_is_counted, streams_are_counted}
-use Rattle.hk_values.specs.Pieces.{fragment_front}
+use Rattle.hk_values.specs.Fragments.{WireFragment, wire_stream_of, stream_text, fact_text, fragment_text, fragment_front, stream_is_counted, streams_are_counted}
 
 -- each stream of streams that can be counted can be counted
 counted_each : (got : List StreamContent) (i : ℕ) → i < length got → streams_are_counted (map wire_stream_of got) ≡ true → stream_is_counted (wire_stream_of (get_or got i unknown)) ≡ true
@@ -52,3 +51,8 @@ unfolding fragment_front
 put_parts f got n x0 x1 x2 x3 x4 x5 x6 streams is e1 e2 e3 e4 e5 e6 =
     let count : n ≡ length f.streams = is ∙ sym (map_length wire_stream_of got) ∙ sym (ap length streams) in
     rw (e6, e5, e4, e3, e2, e1, count) (simp append_assoc)
+
+-- a fragment is what comes before its facts, and the facts
+pub fragment_parts : (f : WireFragment) → fragment_front f ++ flat_map fact_text f.facts ≡ fragment_text f
+unfolding fragment_front fragment_text
+fragment_parts f = simp append_assoc refl

@@ -8,7 +8,7 @@ use Rattle.hk_marks.specs.Seen.{up_to}
 use Rattle.hk_fragment.specs.Parts.{Known}
 use Rattle.hk_frames.specs.Fields.{list_at}
 use Rattle.hk_values.specs.declared.fragment_reading.Start.{Start}
-use Rattle.hk_values.specs.Readers.{Reader, Chained}
+use Rattle.hk_answers.specs.Readers.{Reader, Chained}
 use Rattle.hk_values.specs.Fragments.{WireStream, extra_at, waiting_at, stream_at, fact_at, no_stream, ExtraFits, WaitingFits}
 
 -- what is seen of a head: the log, the number of its streams, the base and the horizon

@@ -7,15 +7,15 @@ use Rattle.std.specs.FinMap as finmap
 use Rattle.std.specs.FinSet as set
 use Rattle.hk_types.specs.Values.{RowValue}
 use Rattle.hk_types.specs.declared.version_key.VersionKey.{VersionKey}
-use Rattle.hk_types.specs.declared.faults.FormFault.TheVariants.{BadStream, BadNumber, BadOrder}
+use Rattle.hk_types.specs.declared.faults.FormFault.TheVariants.{BadNumber, BadOrder}
 use Rattle.hk_log.specs.Versions.{VersionValue}
 use Rattle.hk_model.specs.Replica.Streams.{StreamContent, covers, stream_at as content_at}
 use Rattle.hk_model.specs.Replica.Fragments.{FragmentValue}
 use Rattle.hk_marks.specs.Steps.{extra_numbers}
 use Rattle.hk_fragment.specs.Parts.{Known, versions_listed, follows, is_valid_end}
 use Rattle.hk_frames.specs.Fields.{number, number_at, list_at}
-use Rattle.hk_values.specs.Readers.{Reader, both, after, fault_where, mapped_value, by_kind, list_by_count, time_at, Chained}
-use Rattle.hk_values.specs.Answers.{row_text, row_at, RowFits, PresentFits}
+use Rattle.hk_answers.specs.Readers.{Reader, both, after, fault_where, mapped_value, by_kind, list_by_count, time_at, Chained, stream_count_at, DiedFits}
+use Rattle.hk_answers.specs.Answers.{row_text, row_at, RowFits, PresentFits}
 
 -- what is told of a stream: the number up to which all are taken, the closed time, the taken numbers above it,
 -- and the waiting marks by their counts
@@ -125,6 +125,12 @@ fragment_text f =
     number w64 f.log ++ (number w16 (length f.streams) ++ (number w64 f.base ++ (number w64 f.horizon
     ++ (flat_map stream_text f.streams ++ facts_text f.facts))))
 
+-- what the encoding of a fragment has before its facts
+unfoldable pub fragment_front : WireFragment → List ℕ
+fragment_front f =
+    number w64 f.log ++ (number w16 (length f.streams) ++ (number w64 f.base ++ (number w64 f.horizon
+    ++ (flat_map stream_text f.streams ++ number w32 (length f.facts)))))
+
 -- ---- reading
 
 -- a number after the one before it, where there is one
@@ -195,10 +201,6 @@ bounds_at bytes = fault_where (both time_at time_at) (λ p. not ((p.0 == 0) || n
 unfoldable pub streams_at : ℕ → ℕ → Reader (List WireStream)
 streams_at horizon count bytes = fault_where (list_at no_stream (λ _. stream_at) count None) (λ streams. nat_lt (least_closed_of streams) horizon) BadNumber bytes
 
--- a number of streams, 1 to 64
-unfoldable pub stream_count_at : Reader ℕ
-stream_count_at bytes = fault_where (number_at w16) (λ n. nat_lt n 1 || nat_lt 64 n) BadStream bytes
-
 -- the log, the number of streams, the base and the horizon
 abbrev pub fragment_head_at : Reader (ℕ × (ℕ × (ℕ × ℕ)))
 fragment_head_at bytes = both (number_at w64) (both stream_count_at bounds_at) bytes
@@ -254,11 +256,6 @@ pub record NameFits (v : VersionKey) : Type 0 where
   pub table : v.table < 2 ^ 16
   pub key : v.key < 2 ^ 64
   pub born : v.born ≤ 2 ^ 62
-
--- a time, if there is one
-abbrev pub DiedFits : Option ℕ → Type 0
-DiedFits None = Unit {0}
-DiedFits (Some died) = died ≤ 2 ^ 62
 
 -- a version and what is known of it, whose numbers and body fit their fields
 pub record KnownFits (e : Known) : Type 0 where

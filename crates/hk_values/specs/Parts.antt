@@ -11,7 +11,7 @@ use Rattle.hk_fragment.specs.Parts.{Known, facts_fault}
 use Rattle.hk_frames.specs.Fields.{number, number_at}
 use Rattle.hk_model.specs.Replica.Fragments.{FragmentValue}
 use Rattle.hk_fragment.specs.Heads.{HeadValue, head_of}
-use Rattle.hk_values.specs.Readers.{Reader, both, after, mapped_value, Chained, fault_where}
+use Rattle.hk_answers.specs.Readers.{Reader, both, after, mapped_value, Chained, fault_where}
 use Rattle.hk_values.specs.Fragments.{WireStream, WireFragment, wire_stream_of, stream_text, fragment_head_at, streams_at, facts_at, streams_are_counted, FactFits, FragmentFits}
 use Rattle.hk_types.specs.declared.faults.FormFault.TheVariants.{BadNumber}
 

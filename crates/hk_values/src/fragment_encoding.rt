@@ -3,12 +3,14 @@
 ghost use Rattle.std.specs.Prelude.{◌≡◌, ◌≤◌, ◌*◌, ◌++◌, ◌^◌, ◌<◌, None, true, All, length, map, take, OnOk, OnErr, IfOk};
 ghost use Rattle.std.specs.List.{flat_map};
 ghost use Rattle.hk_types.specs.declared.version_key.VersionKey.{VersionKey};
-ghost use Rattle.hk_values.specs.Answers.{PresentFits};
+ghost use Rattle.hk_answers.specs.Answers.{PresentFits};
+ghost use Rattle.hk_answers.specs.Pieces.{AddsFrom};
+ghost use Rattle.hk_answers.specs.Readers.{DiedFits};
 ghost use Rattle.hk_values.specs.Fragments as spec;
-ghost use Rattle.hk_values.specs.Pieces.{AddsFrom, fragment_front};
+ghost use Rattle.hk_values.specs.Fragments.{fragment_front};
 
-use crate::answer::{put_row, row_len};
-use crate::field_len::{key_len, number_len, table_len, time_len};
+use hk_answers::answer::{put_row, row_len};
+use hk_answers::field_len::{key_len, number_len, table_len, time_len};
 use hk_fragment::Fragment;
 use hk_frames::{put_u16, put_u32, put_u64};
 use hk_log::Version;
@@ -90,7 +92,7 @@ pub(crate) fn streams_len(got: &Got) -> u64
 }
 
 /// How many bytes the row has, where it is known.
-#[tactic(auto, using(crate::proofs::Lengths::row_len))]
+#[tactic(auto, using(hk_answers::proofs::Lengths::row_len))]
 fn known_row_len(known: &Version) -> u64
     ensures len { result ≡ length (spec.parts_text known.now.row None) }
     ensures bound { result ≤ 4102 }
@@ -107,7 +109,7 @@ fn known_row_len(known: &Version) -> u64
 fn died_len(known: &Version) -> u64
     ensures len { result ≡ length (spec.parts_text None known.now.died) }
     ensures bound { result ≤ 8 }
-    ensures fits { spec.DiedFits known.now.died }
+    ensures fits { DiedFits known.now.died }
 {
     match known.died() {
         None => 0,
@@ -347,7 +349,7 @@ pub fn put_facts(out: &mut Vec<u8>, facts: &[(VersionKey, Version)]) -> Result<(
 }
 
 /// Adds what a fragment's bytes have before its facts: the head, the states of the streams, and how many facts there are.
-#[tactic(auto, using(std::proofs::Common::append_assoc, hk_frames::proofs::Prefix::kept_all, hk_frames::proofs::Prefix::kept_before, hk_frames::proofs::Prefix::kept_both), unfolding(crate::specs::Pieces::fragment_front))]
+#[tactic(auto, using(std::proofs::Common::append_assoc, hk_frames::proofs::Prefix::kept_all, hk_frames::proofs::Prefix::kept_before, hk_frames::proofs::Prefix::kept_both), unfolding(crate::specs::Fragments::fragment_front))]
 pub fn put_fragment_front(out: &mut Vec<u8>, fragment: &Fragment) -> Result<(), AllocError>
     requires { spec.is_counted (spec.wire_fragment_of fragment.now) ≡ true }
     ensures ok { OnOk result (out.new.items

@@ -7,9 +7,9 @@ ghost use Rattle.hk_model.specs.Replica.Content.{least_closed};
 ghost use Rattle.hk_fragment.specs.Heads.{head_of, head_with, of_facts};
 ghost use Rattle.hk_values.specs.Parts as spec;
 
-use crate::field_len::number_len;
 use crate::fragment_encoding::{head_len, put_streams, streams_are_counted, streams_len};
 use crate::fragment_reading::{read_fragment_head, read_got};
+use hk_answers::field_len::number_len;
 use hk_fragment::{Assembly, Fragment};
 use hk_frames::{Cursor, ReadError, put_u16, put_u64};
 use hk_marks::Got;

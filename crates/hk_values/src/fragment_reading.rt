@@ -8,8 +8,8 @@ ghost use Rattle.hk_fragment.specs.Parts as parts;
 ghost use Rattle.hk_values.specs.Fragments as spec;
 ghost use Rattle.hk_values.specs.FragmentSteps as steps;
 
-use crate::answer::read_row;
-use crate::numbers::read_time;
+use hk_answers::answer::read_row;
+use hk_answers::numbers::read_time;
 use hk_fragment::Fragment;
 use hk_frames::{Cursor, ReadError};
 use hk_log::Version;
@@ -51,7 +51,7 @@ fn read_bounds(cursor: &mut Cursor) -> Result<(Time, Time), FormFault>
 
 /// Reads the log, the number of its streams, the base and the horizon. A number of streams outside 1 to 64 is
 /// `BadStream`, a time above 2^62 and a base that is neither 0 nor at least the horizon `BadNumber`.
-#[tactic(auto, unfolding(crate::specs::Fragments::stream_count_at))]
+#[tactic(auto, unfolding(hk_answers::specs::Readers::stream_count_at))]
 pub(crate) fn read_fragment_head(cursor: &mut Cursor) -> Result<Start, FormFault>
     ensures read { GivesValue (λ x. (steps.head_seen x, cursor.new)) result (spec.fragment_head_at cursor.old) }
     ensures above { IfOk result (λ x. ((x.base == 0) || nat_le x.horizon x.base) ≡ true) }

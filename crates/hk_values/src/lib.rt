@@ -1,26 +1,19 @@
-//! Values as bytes: fragments, their heads and chunks, answers, queries, refusals, pages, the reports of streams, and metrics.
+//! Fragments as bytes, their heads and chunks too; and, from hk_answers, the other values of messages.
 //!
-//! They are the fields of messages. Each value has at most one encoding: `put_..` adds it at the end of bytes, `.._len`
-//! returns how long it is, and `read_..` reads it from the front of bytes and returns the first fault of those that have none.
+//! Each fragment has at most one encoding, by functions that are named as those of hk_answers.
 #![tactic(auto)]
 
-pub mod answer;
 mod cutting;
-pub mod field_len;
 pub mod fragment_encoding;
 pub mod fragment_head;
 pub mod fragment_reading;
 mod laws;
-pub mod metric_names;
-pub mod metrics;
-pub mod numbers;
 pub mod part;
-pub mod query;
-pub mod refusal;
 mod split;
-pub mod told;
 
 pub use fragment_head::{FragmentHead, head_bytes};
+pub use hk_answers::{
+    Metric, answer, field_len, metric_names, metrics, numbers, query, refusal, told,
+};
 pub use laws::{copy_by_parts, fragment_law, one_wire_fragment, parts_law, together_law};
-pub use metrics::Metric;
 pub use split::Split;

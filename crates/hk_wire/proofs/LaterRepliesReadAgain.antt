@@ -9,20 +9,20 @@ use Rattle.hk_model.specs.Replica.StreamsTold.{StreamsValue}
 use Rattle.hk_fragment.specs.Parts.{Known}
 use Rattle.hk_frames.specs.Fields.{IsBytes, number, number_at}
 use Rattle.hk_frames.proofs.ReadingSteps.{Takes, both as both_true}
-use Rattle.hk_values.specs.Readers.{both, time_at, positive_at, is_ops, ops_at, front_at}
-use Rattle.hk_values.specs.Answers.{answer_text, answer_at}
+use Rattle.hk_answers.specs.Readers.{both, time_at, positive_at, is_ops, ops_at, front_at}
+use Rattle.hk_answers.specs.Answers.{answer_text, answer_at}
 use Rattle.hk_values.specs.Fragments.{facts_text}
-use Rattle.hk_values.specs.Refusals.{later_refusal_at}
+use Rattle.hk_answers.specs.Refusals.{later_refusal_at}
 use Rattle.hk_values.specs.Parts.{WireHead, head_text, head_at, head_is_counted, HeadFits, part_at, part_keeps_rules, PartFits}
-use Rattle.hk_values.specs.Told.{page_at, streams_at}
-use Rattle.hk_values.specs.Metrics.{metrics_at, tables_at}
-use Rattle.hk_values.specs.declared.metrics.Metric.{Metric}
-use Rattle.hk_values.proofs.ReadersAndEncodings.{IsField, field64, time_field, positive_field, ops_field, front_field, both_field, this_or, made_takes, made_again}
-use Rattle.hk_values.proofs.AnswersReadAgain.{answer_field, AnswerKeeps}
+use Rattle.hk_answers.specs.Told.{page_at, streams_at}
+use Rattle.hk_answers.specs.Metrics.{metrics_at, tables_at}
+use Rattle.hk_answers.specs.declared.metrics.Metric.{Metric}
+use Rattle.hk_answers.proofs.ReadersAndEncodings.{IsField, field64, time_field, positive_field, ops_field, front_field, both_field, this_or, made_takes, made_again}
+use Rattle.hk_answers.proofs.AnswersReadAgain.{answer_field, AnswerKeeps}
 use Rattle.hk_values.proofs.PartsReadAgain.{head_field, part_field}
-use Rattle.hk_values.proofs.ToldReadAgain.{page_field, streams_field}
-use Rattle.hk_values.proofs.MetricsReadAgain.{metrics_field, tables_field}
-use Rattle.hk_values.proofs.RefusalsReadAgain.{later_refusal_field}
+use Rattle.hk_answers.proofs.ToldReadAgain.{page_field, streams_field}
+use Rattle.hk_answers.proofs.MetricsReadAgain.{metrics_field, tables_field}
+use Rattle.hk_answers.proofs.RefusalsReadAgain.{later_refusal_field}
 use Rattle.hk_wire.specs.LaterReplies.{ReplyValue, Done, Streams, Latest, Page, Part, LastPart, Added, Held, Refused, Fed, Ready, Stats, Tables, reply_kind, reply_body, keeps_rules, ReplyFits, part_reply_of, reply_of}
 
 latest_field : IsField (both time_at answer_at) (λ p. number w64 p.0 ++ answer_text p.1) (λ p. (p.0 ≤ 2 ^ 62) × AnswerKeeps p.1)

@@ -7,11 +7,11 @@ use Rattle.hk_model.specs.declared.query.Query.{Query}
 use Rattle.hk_fragment.specs.Parts.{Known}
 use Rattle.hk_frames.specs.Fields.{IsBytes, number, number_at}
 use Rattle.hk_frames.proofs.ReadingSteps.{Takes}
-use Rattle.hk_values.specs.Readers.{Reader, both, time_at, positive_at}
-use Rattle.hk_values.specs.Queries.{query_at}
+use Rattle.hk_answers.specs.Readers.{Reader, both, time_at, positive_at}
+use Rattle.hk_answers.specs.Queries.{query_at}
 use Rattle.hk_values.specs.Parts.{WireHead, head_at, whole_head_at, part_at}
-use Rattle.hk_values.proofs.ReadersAndEncodings.{IsField, field16, field32, field64, time_field, positive_field, not_zero, both_field, barred_field, kept_field, same_field, this_or, made_takes, nothing_takes, made_again}
-use Rattle.hk_values.proofs.QueriesReadAgain.{query_field}
+use Rattle.hk_answers.proofs.ReadersAndEncodings.{IsField, field16, field32, field64, time_field, positive_field, not_zero, both_field, barred_field, kept_field, same_field, this_or, made_takes, nothing_takes, made_again}
+use Rattle.hk_answers.proofs.QueriesReadAgain.{query_field}
 use Rattle.hk_values.proofs.PartsReadAgain.{head_field, whole_head_field, part_field}
 use Rattle.hk_wire.specs.LaterRequests.{RequestValue, Streams, AskLatest, Page, Whole, More, AddPart, JoinParts, MergeParts, Hold, Release, Await, Stats, Tables, request_kind, request_body, keeps_rules, RequestFits, most_at, wait_at, page_at, change_of, request_of}
 

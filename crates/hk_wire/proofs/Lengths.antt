@@ -9,9 +9,9 @@ use Rattle.hk_fragment.specs.Parts.{Known}
 use Rattle.hk_codec.specs.Encoding.{WrittenItem}
 use Rattle.hk_codec.specs.Frames.{frame_text}
 use Rattle.hk_codec.proofs.Lengths.{len16, len32, len64}
-use Rattle.hk_values.specs.Queries.{query_text}
-use Rattle.hk_values.specs.Answers.{answer_text}
-use Rattle.hk_values.specs.Refusals.{refusal_text}
+use Rattle.hk_answers.specs.Queries.{query_text}
+use Rattle.hk_answers.specs.Answers.{answer_text}
+use Rattle.hk_answers.specs.Refusals.{refusal_text}
 use Rattle.hk_values.specs.Fragments.{facts_text}
 use Rattle.hk_values.specs.Parts.{WireHead, head_text}
 use Rattle.hk_wire.specs.LaterRequests.{Page, Whole, Await}

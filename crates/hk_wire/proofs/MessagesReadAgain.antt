@@ -8,8 +8,8 @@ use Rattle.hk_frames.specs.Fields.{IsBytes, ◌>>=◌, check, byte_at}
 use Rattle.hk_frames.specs.Framing.{IsFormat}
 use Rattle.hk_frames.proofs.ReadingSteps.{bind_ok, check_ok, ok_is, Takes, Takes-then, both as both_true}
 use Rattle.hk_codec.proofs.ReadFields.{byte_takes}
-use Rattle.hk_values.specs.Readers.{Reader}
-use Rattle.hk_values.proofs.ReadersAndEncodings.{AreKinds}
+use Rattle.hk_answers.specs.Readers.{Reader}
+use Rattle.hk_answers.proofs.ReadersAndEncodings.{AreKinds}
 use Rattle.hk_wire.specs.Messages.{version_of, message_text, is_read, head_at, message_at}
 
 -- ---- versions

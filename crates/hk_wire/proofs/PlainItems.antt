@@ -9,8 +9,8 @@ use Rattle.hk_frames.proofs.OneFrame.{frame_seen, framed_seen}
 use Rattle.hk_codec.specs.Encoding.{WrittenItem}
 use Rattle.hk_codec.specs.Reading.{item_at}
 use Rattle.hk_codec.specs.Frames.{frame_at}
-use Rattle.hk_values.specs.Readers.{both, time_at}
-use Rattle.hk_values.specs.Queries.{query_at}
+use Rattle.hk_answers.specs.Readers.{both, time_at}
+use Rattle.hk_answers.specs.Queries.{query_at}
 use Rattle.hk_values.specs.Fragments.{fragment_at, whole_at}
 use Rattle.hk_wire.specs.Messages.{head_at, message_at}
 use Rattle.hk_wire.specs.LaterRequests as later

@@ -7,14 +7,14 @@ use Rattle.hk_model.specs.Replica.Answers.{AnswerValue}
 use Rattle.hk_frames.specs.Fields.{IsBytes, ◌>>=◌}
 use Rattle.hk_frames.specs.Framing.{IsFormat}
 use Rattle.hk_frames.proofs.ReadingSteps.{bind_ok, ok_is, Takes, both as both_true}
-use Rattle.hk_values.specs.Readers.{ops_at, front_at, mapped_value}
-use Rattle.hk_values.specs.Answers.{answer_at}
-use Rattle.hk_values.specs.Refusals.{refusal_at}
+use Rattle.hk_answers.specs.Readers.{ops_at, front_at, mapped_value}
+use Rattle.hk_answers.specs.Answers.{answer_at}
+use Rattle.hk_answers.specs.Refusals.{refusal_at}
 use Rattle.hk_values.specs.Fragments.{WireFragment, fragment_at}
-use Rattle.hk_values.proofs.ReadersAndEncodings.{ops_field, front_field, this_or, made_takes, made_again}
-use Rattle.hk_values.proofs.AnswersReadAgain.{answer_field}
+use Rattle.hk_answers.proofs.ReadersAndEncodings.{ops_field, front_field, this_or, made_takes, made_again}
+use Rattle.hk_answers.proofs.AnswersReadAgain.{answer_field}
 use Rattle.hk_values.proofs.FragmentsReadAgain.{fragment_field}
-use Rattle.hk_values.proofs.RefusalsReadAgain.{refusal_field}
+use Rattle.hk_answers.proofs.RefusalsReadAgain.{refusal_field}
 use Rattle.hk_wire.specs.Messages.{message_text, message_at}
 use Rattle.hk_wire.specs.LaterReplies.{Done as LaterDone, Streams, Latest, Page, Part, LastPart, Added, Held, Refused as LaterRefused, Fed, Ready, Stats, Tables}
 use Rattle.hk_wire.specs.LaterReplies as later

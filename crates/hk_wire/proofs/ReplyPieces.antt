@@ -12,12 +12,13 @@ use Rattle.hk_frames.proofs.Prefix.{kept_before}
 use Rattle.hk_frames.proofs.ReadingSteps.{both as both_true}
 use Rattle.hk_types.specs.Values.{RowValue}
 use Rattle.hk_fragment.specs.Parts.{Known}
-use Rattle.hk_values.specs.Answers.{keyed_text}
+use Rattle.hk_answers.specs.Answers.{keyed_text}
 use Rattle.hk_values.specs.Fragments.{fact_text}
-use Rattle.hk_values.specs.Pieces.{rows_of}
+use Rattle.hk_answers.specs.Pieces.{rows_of}
 use Rattle.hk_values.specs.Parts.{WireHead, head_text}
-use Rattle.hk_values.specs.Told.{flag_text}
-use Rattle.hk_values.proofs.AddedPieces.{fragment_parts, answer_parts}
+use Rattle.hk_answers.specs.Told.{flag_text}
+use Rattle.hk_values.proofs.WrittenFragments.{fragment_parts}
+use Rattle.hk_answers.proofs.AddedPieces.{answer_parts}
 use Rattle.hk_values.proofs.Lengths.{head_text_len}
 use Rattle.hk_wire.specs.Messages.{message_text}
 use Rattle.hk_wire.specs.LaterReplies as later

@@ -16,11 +16,11 @@ use Rattle.hk_frames.proofs.ReadingSteps.{IsBytes-drop, bind_ok, ok_is, Takes, b
 use Rattle.hk_frames.proofs.Numbers.{guard_ok}
 use Rattle.hk_frames.proofs.OneFrame.{frame_takes, frame_again}
 use Rattle.hk_codec.proofs.ItemFrames.{items_are_sound}
-use Rattle.hk_values.specs.Readers.{both, fault_where, list_by, time_at, Chained, mapped_value}
-use Rattle.hk_values.specs.Queries.{query_text, QueryFits, query_at}
+use Rattle.hk_answers.specs.Readers.{both, fault_where, list_by, time_at, Chained, mapped_value}
+use Rattle.hk_answers.specs.Queries.{query_text, QueryFits, query_at}
 use Rattle.hk_values.specs.Fragments.{WireFragment, fragment_at, whole_at}
-use Rattle.hk_values.proofs.ReadersAndEncodings.{IsField, field32, time_field, both_field, barred_field, same_field, listed_field, this_or, made_takes, nothing_takes, made_again}
-use Rattle.hk_values.proofs.QueriesReadAgain.{query_field}
+use Rattle.hk_answers.proofs.ReadersAndEncodings.{IsField, field32, time_field, both_field, barred_field, same_field, listed_field, this_or, made_takes, nothing_takes, made_again}
+use Rattle.hk_answers.proofs.QueriesReadAgain.{query_field}
 use Rattle.hk_values.proofs.FragmentsReadAgain.{fragment_field, whole_field}
 use Rattle.hk_wire.specs.Messages.{message_text, message_at}
 use Rattle.hk_wire.specs.LaterRequests.{Streams, AskLatest, Page, Whole, More, AddPart, JoinParts, MergeParts, Hold, Release, Await, Stats, Tables}

@@ -8,14 +8,14 @@ use Rattle.hk_model.specs.Replica.Pages.{PageValue, page_seen}
 use Rattle.hk_model.specs.Replica.StreamsTold.{StreamsValue, streams_seen}
 use Rattle.hk_fragment.specs.Parts.{Known}
 use Rattle.hk_frames.specs.Fields.{number, number_at}
-use Rattle.hk_values.specs.Readers.{Reader, both, mapped_value, time_at, positive_at, is_ops, ops_at, front_at}
-use Rattle.hk_values.specs.Answers.{answer_text, answer_at, answer_keeps_rules, AnswerFits}
+use Rattle.hk_answers.specs.Readers.{Reader, both, mapped_value, time_at, positive_at, is_ops, ops_at, front_at}
+use Rattle.hk_answers.specs.Answers.{answer_text, answer_at, answer_keeps_rules, AnswerFits}
 use Rattle.hk_values.specs.Fragments.{facts_text}
-use Rattle.hk_values.specs.Refusals.{refusal_text, RefusalFits, is_told, later_refusal_at}
+use Rattle.hk_answers.specs.Refusals.{refusal_text, RefusalFits, is_told, later_refusal_at}
 use Rattle.hk_values.specs.Parts.{WireHead, wire_head_of, head_text, head_at, head_is_counted, HeadFits, part_at, part_keeps_rules, PartFits}
-use Rattle.hk_values.specs.Told.{page_text, page_at, page_keeps_rules, PageFits, streams_text, streams_at, streams_keep_rules, StreamsFit}
-use Rattle.hk_values.specs.Metrics.{metrics_text, metrics_at, metrics_keep_rules, MetricsFit, tables_text, tables_at, tables_keep_rules, TablesFit}
-use Rattle.hk_values.specs.declared.metrics.Metric.{Metric}
+use Rattle.hk_answers.specs.Told.{page_text, page_at, page_keeps_rules, PageFits, streams_text, streams_at, streams_keep_rules, StreamsFit}
+use Rattle.hk_answers.specs.Metrics.{metrics_text, metrics_at, metrics_keep_rules, MetricsFit, tables_text, tables_at, tables_keep_rules, TablesFit}
+use Rattle.hk_answers.specs.declared.metrics.Metric.{Metric}
 use Rattle.hk_wire.specs.declared.later_reply.LaterReply.{LaterReply}
 use Rattle.hk_wire.specs.declared.later_reply.LaterReply.TheVariants as replied
 

@@ -5,8 +5,8 @@ use Rattle.hk_types.specs.declared.faults.FormFault.TheVariants.{BadKind, BadCou
 use Rattle.hk_model.specs.declared.query.Query.{Query}
 use Rattle.hk_fragment.specs.Parts.{Known}
 use Rattle.hk_frames.specs.Fields.{number, number_at}
-use Rattle.hk_values.specs.Readers.{Reader, both, fault_where, mapped_value, nothing, time_at, positive_at}
-use Rattle.hk_values.specs.Queries.{query_text, query_at, QueryFits}
+use Rattle.hk_answers.specs.Readers.{Reader, both, fault_where, mapped_value, nothing, time_at, positive_at}
+use Rattle.hk_answers.specs.Queries.{query_text, query_at, QueryFits}
 use Rattle.hk_values.specs.Fragments.{facts_text}
 use Rattle.hk_values.specs.Parts.{WireHead, wire_head_of, head_text, head_at, whole_head_at, head_is_counted, HeadFits, part_at, part_keeps_rules, PartFits}
 use Rattle.hk_wire.specs.declared.later_request.LaterRequest.{LaterRequest}

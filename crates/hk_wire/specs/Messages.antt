@@ -3,7 +3,7 @@ use Rattle.std.specs.Prelude.{ℕ, ◌&&◌, Bool, not, ◌==◌, nat_lt, nat_le
 use Rattle.hk_types.specs.declared.faults.FormFault.{FormFault}
 use Rattle.hk_types.specs.declared.faults.FormFault.TheVariants.{BadKind, BadVersion, WrongLength}
 use Rattle.hk_frames.specs.Fields.{◌>>=◌, check, byte_at}
-use Rattle.hk_values.specs.Readers.{Reader}
+use Rattle.hk_answers.specs.Readers.{Reader}
 
 -- the version of the messages of a kind: from 48 on they are of version 2
 abbrev pub version_of : ℕ → ℕ

@@ -5,10 +5,10 @@ use Rattle.std.specs.List.{flat_map}
 use Rattle.hk_fragment.specs.Heads.{HeadValue}
 use Rattle.hk_fragment.specs.Parts.{Known}
 use Rattle.hk_frames.specs.Fields.{number}
-use Rattle.hk_values.specs.Answers.{keyed_text}
-use Rattle.hk_values.specs.Fragments.{fact_text}
+use Rattle.hk_answers.specs.Answers.{keyed_text}
+use Rattle.hk_values.specs.Fragments.{fact_text, fragment_front}
 use Rattle.hk_values.specs.Parts.{head_text, wire_head_of}
-use Rattle.hk_values.specs.Pieces.{fragment_front, rows_of, answer_front, page_front}
+use Rattle.hk_answers.specs.Pieces.{rows_of, answer_front, page_front}
 use Rattle.hk_wire.specs.LaterReplies as later
 use Rattle.hk_wire.specs.declared.later_reply.LaterReply.{LaterReply}
 use Rattle.hk_wire.specs.declared.reply.Reply.{Reply}

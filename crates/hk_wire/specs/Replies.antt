@@ -10,12 +10,12 @@ use Rattle.hk_wire.specs.declared.reply.Reply.{Reply}
 use Rattle.hk_wire.specs.declared.reply.Reply.TheVariants as replied
 use Rattle.hk_types.specs.declared.faults.Refusal.{Refusal}
 use Rattle.hk_model.specs.Replica.Answers.{AnswerValue, answer_seen}
-use Rattle.hk_values.specs.Answers.{answer_text, answer_at, answer_keeps_rules, AnswerFits}
+use Rattle.hk_answers.specs.Answers.{answer_text, answer_at, answer_keeps_rules, AnswerFits}
 use Rattle.hk_values.specs.Fragments.{WireFragment, wire_fragment_of, fragment_text, fragment_at, FragmentFits, is_counted}
-use Rattle.hk_values.specs.Readers.{Reader, mapped_value, is_ops, ops_at, front_at}
+use Rattle.hk_answers.specs.Readers.{Reader, mapped_value, is_ops, ops_at, front_at}
 use Rattle.hk_wire.specs.Messages.{message_text, message_at}
 use Rattle.hk_wire.specs.LaterReplies as later
-use Rattle.hk_values.specs.Refusals.{refusal_text, refusal_at, RefusalFits, is_sent}
+use Rattle.hk_answers.specs.Refusals.{refusal_text, refusal_at, RefusalFits, is_sent}
 
 -- the value of a `Reply`
 pub data ReplyValue : Type 0 where

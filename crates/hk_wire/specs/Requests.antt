@@ -15,11 +15,11 @@ use Rattle.hk_codec.specs.Frames.{frame_text, frame_at}
 use Rattle.hk_frames.specs.Framing.{encoded, framed, BeginsAs, AddsValues, FormatOf}
 use Rattle.hk_wire.specs.declared.request.Request.{Request}
 use Rattle.hk_wire.specs.declared.request.Request.TheVariants as asked
-use Rattle.hk_values.specs.Readers.{Reader, both, fault_where, mapped_value, nothing, list_by, time_at}
+use Rattle.hk_answers.specs.Readers.{Reader, both, fault_where, mapped_value, nothing, list_by, time_at}
 use Rattle.hk_wire.specs.Messages.{version_of, message_text, message_at}
 use Rattle.hk_wire.specs.LaterRequests as later
 use Rattle.hk_values.specs.Fragments.{WireFragment, wire_fragment_of, fragment_text, fragment_at, whole_at, FragmentFits, is_counted}
-use Rattle.hk_values.specs.Queries.{query_text, query_at, QueryFits}
+use Rattle.hk_answers.specs.Queries.{query_text, query_at, QueryFits}
 
 -- a request, with items that are told so
 pub data RequestOf (I : Type 0) : Type 0 where

@@ -2,7 +2,7 @@ use Rattle.std.proofs.Common.{◌≡◌, length, get_or, arith, ap, subst, All}
 use Rattle.std.proofs.lemmas.List.{take_all}
 use Rattle.std.proofs.lemmas.List.Elements.{All-more}
 use Rattle.hk_values.specs.Fragments.{fact_text, KnownFits}
-use Rattle.hk_values.proofs.Lengths.{one_longer}
+use Rattle.hk_answers.proofs.Lengths.{one_longer}
 use Rattle.hk_values.proofs.fragment_encoding.facts_len.Goals as goal
 
 pub loop-fact-preserved : goal.loop-fact-preserved

@@ -1,6 +1,6 @@
 use Rattle.std.proofs.Common.{◌-◌, length}
 use Rattle.hk_values.specs.Fragments.{fact_text}
-use Rattle.hk_values.proofs.AddedPieces.{AddedTo}
+use Rattle.hk_answers.proofs.AddedPieces.{AddedTo}
 use Rattle.hk_values.proofs.fragment_encoding.put_facts_from.Given as goal
 
 abbrev pub invariant-loop-to : goal.invariant-loop-to

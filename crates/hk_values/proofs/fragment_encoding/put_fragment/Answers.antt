@@ -1,9 +1,8 @@
 use Rattle.std.proofs.Common.{◌++◌, List, ℕ, ap, ◌∙◌, append_assoc}
 use Rattle.std.specs.List.{flat_map}
 use Rattle.hk_fragment.specs.Parts.{Known}
-use Rattle.hk_values.specs.Fragments.{fact_text, wire_fragment_of}
-use Rattle.hk_values.specs.Pieces.{fragment_front}
-use Rattle.hk_values.proofs.AddedPieces.{fragment_parts}
+use Rattle.hk_values.specs.Fragments.{fact_text, wire_fragment_of, fragment_front}
+use Rattle.hk_values.proofs.WrittenFragments.{fragment_parts}
 use Rattle.hk_values.proofs.ReadingLoops.{map_ok}
 use Rattle.hk_values.proofs.fragment_encoding.put_fragment.Goals as goal
 

@@ -4,7 +4,7 @@ use Rattle.std.proofs.lemmas.List.{take_all}
 use Rattle.std.proofs.lemmas.List.Elements.{All-more, recursion_from_All}
 use Rattle.hk_codec.specs.Frames.{encoding_of}
 use Rattle.hk_codec.specs.Encoding.{IsEncodableItem}
-use Rattle.hk_values.proofs.Lengths.{one_longer}
+use Rattle.hk_answers.proofs.Lengths.{one_longer}
 use Rattle.hk_wire.proofs.EncodedMessages.{new_items_text, new_items_fit}
 use Rattle.hk_wire.proofs.items.items_len.Goals as goal
 

@@ -1,0 +1,10 @@
+pub mod ReadersAndEncodings
+pub mod QueriesReadAgain
+pub mod RefusalsReadAgain
+pub mod AnswersReadAgain
+pub mod Lengths
+pub mod AddedPieces
+pub mod ToldLengths
+pub mod ToldReadAgain
+pub mod MetricLengths
+pub mod MetricsReadAgain

@@ -1,6 +1,0 @@
-use Rattle.std.proofs.Common.{◌≡◌, None, drop}
-use Rattle.hk_values.specs.Answers as spec
-use Rattle.hk_values.proofs.answer.keys_rise.Given as goal
-
-abbrev pub invariant-loop-key : goal.invariant-loop-key
-invariant-loop-key l = spec.keys_rise l.before (drop l.key-index l.rows) ≡ spec.keys_rise None l.rows
