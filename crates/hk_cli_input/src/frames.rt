@@ -95,24 +95,6 @@ struct Position {
     kind: u8,
 }
 
-/// Hands on the items that a part of a piece completes.
-fn take_part<S: Sink>(
-    alloc: Global,
-    feeder: &mut Feeder,
-    at: &mut Position,
-    sink: &mut S,
-    part: &[u8],
-) -> Result<(), Stop>
-    ensures ok { OnOk result (GoesOn S.took sink.old sink.new feeder.old feeder.new part.now) }
-    ensures err { OnErr result (BreaksOff S.took sink.old sink.new feeder.old part.now) }
-{
-    pieces_join();
-    let mut items = Vec::new(alloc);
-    let fed = feeder.feed(part, &mut items);
-    take_all(items, sink, &mut at.count)?;
-    checked(fed, at.count, at.kind)
-}
-
 /// Hands on the items that a piece completes.
 fn take_piece<S: Sink>(
     alloc: Global,
@@ -128,7 +110,11 @@ fn take_piece<S: Sink>(
         at.kind = kind_at_head(piece);
     }
     for part in piece.chunks(PART_BYTES) {
-        take_part(alloc, feeder, at, sink, part)?;
+        pieces_join();
+        let mut items = Vec::new(alloc);
+        let fed = feeder.feed(part, &mut items);
+        take_all(items, sink, &mut at.count)?;
+        checked(fed, at.count, at.kind)?;
     }
     Ok(())
 }
