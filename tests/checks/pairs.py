@@ -21,7 +21,6 @@ SKIPPED = re.compile(r"(//|--|use |pub use |ghost use |pub mod |mod |import |[\W
 # the pairs of files that stand, by kind, each with why one piece doesn't serve for both
 KNOWN = {
     "code": {
-        ("hk_index/src/birth_index.rt", "hk_index/src/time_index.rt"): "thin wrappers of one TimeRuns, whose members differ; one generic wrapper would carry a law for each",
         ("hk_session/src/serving.rt", "hk_session/src/serving.rt"): "serve and serve_bytes say of one loop what each caller sees of it",
         ("hk_state/src/apply.rt", "hk_state/src/apply.rt"): "a join and a merge end alike; they go with the one way to put a version",
         ("hk_state/src/learn.rt", "hk_state/src/learn.rt"): "the same of what is learnt",

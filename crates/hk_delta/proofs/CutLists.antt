@@ -17,9 +17,8 @@ use Rattle.hk_model.proofs.Replica.Maps.{version_key_total, version_key_same, ge
 use Rattle.hk_model.proofs.Replica.Visible.{T_both}
 use Rattle.hk_marks.proofs.Readers.{is_sorted-from}
 use Rattle.hk_facts.specs.Facts.{if_known}
-use Rattle.hk_index.specs.Timed.{passes_at}
 use Rattle.hk_store.specs.Facts.{FactsValue, known_at, entry_if}
-use Rattle.hk_store.specs.Indexed.{is_stated}
+use Rattle.hk_store.specs.Indexed.{is_stated, passes_at}
 use Rattle.hk_store.specs.Reads.{facts_of_content}
 use Rattle.hk_store.specs.Versions.{AreVersions, AreVersionsOf}
 use Rattle.hk_store.proofs.PickedVersions.{find_known, unlisted}

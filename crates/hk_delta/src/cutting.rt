@@ -131,8 +131,7 @@ pub fn delta_since(alloc: Global, state: &ReplicaState, base: Time) -> Result<Fr
     if base < horizon {
         return Err(Refusal::TooOld { horizon });
     }
-    let changed = state.facts().stated_above(alloc, base)?;
-    let versions = state.facts().versions_of(alloc, &changed)?;
+    let versions = state.facts().stated_above(alloc, base)?;
     let left = left_of(alloc, base, &versions)?;
     fragment_from(alloc, state, base, left)
 }

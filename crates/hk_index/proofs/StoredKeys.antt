@@ -1,5 +1,5 @@
 -- What a stored set of versions answers is what the set that is seen answers.
-use Rattle.std.proofs.Common.{◌≡◌, refl, sym, ap, ◌∙◌, ℕ, ◌≤◌, Bool, true, false, cond, List, [], ◌∷◌, filter, ◌||◌, ◌&&◌, ◌==◌, nat_le, nat_cmp, is_le, is_eq, is_gt, eqb-true, eq-eqb, leb-true, le-leb, subst, Less, Equal, Greater, arith, true≢false}
+use Rattle.std.proofs.Common.{◌≡◌, refl, sym, ap, ◌∙◌, ℕ, ◌≤◌, Bool, true, false, cond, List, [], ◌∷◌, filter, ◌||◌, ◌&&◌, ◌==◌, nat_le, nat_cmp, is_le, is_eq, is_gt, eqb-true, eq-eqb, leb-true, le-leb, subst, Less, Equal, Greater, Ordering, arith, true≢false}
 use Rattle.std.proofs.lemmas.Bool.Decides.{nat_tests}
 use Rattle.std.proofs.lemmas.List.Kept.{IsStrictlySortedBy-filter}
 use Rattle.std.proofs.lemmas.Bool.{and_parts, and_from}
@@ -199,3 +199,16 @@ Lists-from keys table low high vs rising is = record {
     regroup : (a b c : Bool) → ((a && b) && c) ≡ (a && (b && c))
     regroup true b c = refl
     regroup false b c = refl
+
+-- ---- orders that tie
+
+pub same_number : (a b : ℕ) → (a == b) ≡ is_eq (nat_cmp a b)
+same_number a b = grind (arith, nat_tests)
+
+pub then_tied : (a b : ℕ) (o : Ordering) → is_eq (ordering_then (nat_cmp a b) o) ≡ ((a == b) && is_eq o)
+then_tied a b o =
+    elim (nat_cmp a b) as (λ k. nat_cmp a b ≡ k → is_eq (ordering_then k o) ≡ ((a == b) && is_eq o)) [
+      | Less ↦ λ e. ap (λ c. c && is_eq o) (sym (same_number a b ∙ ap is_eq e))
+      | Equal ↦ λ e. ap (λ c. c && is_eq o) (sym (same_number a b ∙ ap is_eq e))
+      | Greater ↦ λ e. ap (λ c. c && is_eq o) (sym (same_number a b ∙ ap is_eq e))
+    ] refl

@@ -91,11 +91,11 @@ impl TagKeys {
         Ok(keys)
     }
 
-    /// Notes that a row is gone for which its key was listed. It promises nothing.
-    pub fn note_gone(&mut self)
+    /// Notes that so many rows are gone for which their keys were listed. It promises nothing.
+    pub fn note_gone(&mut self, many: u64)
         ensures { self.new ≡ self.old }
     {
-        self.gone = self.gone.saturating_add(1);
+        self.gone = self.gone.saturating_add(many as usize);
     }
 
     /// Whether more than half of what is listed is gone. It promises nothing.

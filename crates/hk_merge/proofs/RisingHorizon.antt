@@ -15,11 +15,10 @@ use Rattle.hk_model.specs.Replica.Maps.{or_else}
 use Rattle.hk_model.specs.Replica.Content.{Content, at_most, ended_by}
 use Rattle.hk_model.specs.Replica.Fragments.{FragmentValue}
 use Rattle.hk_model.proofs.Replica.Maps.{version_key_total, find-append}
-use Rattle.hk_index.specs.Timed.{passes_at}
 use Rattle.hk_facts.specs.Facts.{if_known}
 use Rattle.hk_store.specs.Facts.{FactsValue, known_at}
 use Rattle.hk_store.specs.Drops.{is_among}
-use Rattle.hk_store.specs.Indexed.{is_stated}
+use Rattle.hk_store.specs.Indexed.{is_stated, passes_at}
 use Rattle.hk_store.specs.Reads.{facts_of_content}
 use Rattle.hk_store.specs.Versions.{AreVersionsOf}
 use Rattle.hk_merge.specs.Plans.{goes, stays, may_go, row_back, end_back, all_gone, rows_back, ends_back, passes, known_in, rises, is_sent, gone_at, row_back_at, end_back_at, old_come, row_coming, end_coming, row_comes_at, end_comes_at}

@@ -150,6 +150,7 @@ impl ReplicaState {
     {
         let horizon = change.horizon;
         take_change(self.alloc, &mut self.facts, &mut self.got, change, given)?;
+        self.facts.note_ends_above(horizon);
         self.horizon = horizon;
         Ok(())
     }

@@ -1,23 +1,16 @@
 -- Facts that are dropped one version after the other.
-use Rattle.std.proofs.Common.{◌≡◌, refl, sym, ap, ◌∙◌, ℕ, Bool, true, false, cond, not, ◌||◌, ◌&&◌, ◌==◌, nat_le, nat_lt, Option, Some, None, List, [], ◌∷◌, ◌++◌, ◌+◌, ◌<◌, take, length, get_or, arith}
-use Rattle.std.proofs.lemmas.Bool.Decides.{nat_tests}
+use Rattle.std.proofs.Common.{◌≡◌, refl, sym, ap, ◌∙◌, ℕ, Bool, true, false, cond, not, ◌||◌, Option, None, List, [], ◌∷◌, ◌++◌, ◌+◌, ◌<◌, take, length, get_or}
 use Rattle.std.proofs.lemmas.List.{take_more}
 use Rattle.std.proofs.lemmas.List.Folds.{list_any-append}
 use Rattle.std.specs.Ordering.{eq_by_cmp}
 use Rattle.std.specs.FinMap as finmap
-use Rattle.std.specs.FinSet as set
 use Rattle.hk_types.specs.declared.version_key.VersionKey.{VersionKey}
 use Rattle.hk_model.specs.History.Rows.{version_key_cmp}
-use Rattle.hk_model.specs.Replica.Content.{at_most, ended_by}
 use Rattle.hk_model.proofs.Replica.Maps.{version_key_total, version_key_same, get-retain}
 use Rattle.hk_facts.specs.declared.fact.Part.TheVariants.{Whole}
 use Rattle.hk_store.specs.Facts.{FactsValue, facts_without}
-use Rattle.hk_index.specs.Timed.{is_at, AreTimed}
-use Rattle.hk_index.proofs.StoredTimes.{retained}
-use Rattle.hk_store.specs.Drops.{is_among, without_all, pruned_facts}
-use Rattle.hk_store.specs.Indexed.{died_at}
+use Rattle.hk_store.specs.Drops.{is_among, without_all}
 use Rattle.hk_store.proofs.ChangedChains.{same_facts}
-use Rattle.hk_store.proofs.TimedFacts.{Times, at_time}
 
 module _ {X : Type 0} (m : finmap.FinMap version_key_cmp X) where
   kept : (p : VersionKey → Bool) (q : VersionKey) → finmap.get (finmap.retain_keys m p) q ≡ cond (p q) (finmap.get m q) None
@@ -51,34 +44,3 @@ dropped_more f g new vs i v is below before one =
     one ∙ ap (λ h. facts_without h v Whole) before
     ∙ same_facts (facts_without (without_all f (take i vs)) v Whole) (without_all f (take i vs ++ v ∷ [])) (kept_more f.rows (take i vs) v) (kept_more f.ends (take i vs) v)
     ∙ ap (without_all f) (sym (take_more vs i v below ∙ ap (λ y. take i vs ++ y ∷ []) (sym is)))
-
-pub dropped_ended : (f : FactsValue) (vs : List VersionKey) (h : ℕ) → ((q : VersionKey) → is_among vs q ≡ ended_by f.ends h q) → without_all f vs ≡ pruned_facts f h
-dropped_ended f vs h is = same_facts (without_all f vs) (pruned_facts f h) (kept_alike f.rows (is_among vs) (ended_by f.ends h) is) (kept_alike f.ends (is_among vs) (ended_by f.ends h) is)
-
--- ---- the index by death
-
-pub deaths_dropped : (f : FactsValue) (deaths : Times) → AreTimed (died_at f) deaths → (h : ℕ) (vs : List VersionKey) → ((q : VersionKey) → is_among vs q ≡ ended_by f.ends h q) → AreTimed (died_at (without_all f vs)) (set.retain deaths (λ t. nat_lt h t.time))
-deaths_dropped f deaths are h vs is t q =
-    retained deaths (nat_lt h) (at_time t q)
-    ∙ ap (λ b. b && nat_lt h t) (are t q)
-    ∙ at (finmap.get f.ends q)
-    ∙ sym (ap (is_at t) (kept f.ends (λ v. not (is_among vs v)) q ∙ ap (λ b. cond (not b) (finmap.get f.ends q) None) (is q)))
-  where
-    both : (d : ℕ) → ((d == t) && nat_lt h t) ≡ ((d == t) && not (nat_le d h))
-    both d = grind (arith, nat_tests)
-
-    by : (d : ℕ) (b : Bool) → ((d == t) && not b) ≡ is_at t (cond (not b) (Some d) None)
-    by d true = none (d == t)
-      where
-        none : (b : Bool) → (b && false) ≡ false
-        none true = refl
-        none false = refl
-    by d false = all (d == t)
-      where
-        all : (b : Bool) → (b && true) ≡ b
-        all true = refl
-        all false = refl
-
-    at : (o : Option ℕ) → (is_at t o && nat_lt h t) ≡ is_at t (cond (not (at_most h o)) o None)
-    at None = refl
-    at (Some d) = both d ∙ by d (nat_le d h)

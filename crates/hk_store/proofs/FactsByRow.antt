@@ -1,22 +1,20 @@
 -- The facts of stored chains, and what becomes of them.
 use Rattle.std.proofs.Common.{◌≡◌, refl, sym, ap, ◌∙◌, subst, ℕ, zero, suc, ◌<◌, Bool, true, false, cond, Option, Some, None, Ok, IfSome, IsSome, nat_cmp, Bor, arith}
-use Rattle.std.specs.Option.{option_copied, option_and_then, option_map, IfNone}
+use Rattle.std.specs.Option.{option_copied, option_and_then, IfNone}
 use Rattle.std.specs.Ordering.{eq_by_cmp}
 use Rattle.std.specs.FinMap as finmap
-use Rattle.hk_types.specs.Values.{RowValue}
 use Rattle.hk_types.specs.declared.version_key.VersionKey.{VersionKey}
 use Rattle.hk_model.specs.History.Rows.{RowKey, row_key_cmp, row_key_of, version_key_cmp, version_of}
 use Rattle.hk_model.proofs.Replica.Maps.{row_key_total}
 use Rattle.hk_facts.specs.declared.fact.Fact.{Fact}
 use Rattle.hk_facts.specs.declared.fact.Part.{Part}
-use Rattle.hk_facts.specs.declared.fact.Part.TheVariants.{Row as RowPart, End as EndPart, Whole}
 use Rattle.hk_facts.specs.Facts.{row_of, died_of, without}
 use Rattle.hk_facts.specs.Chains.{ChainValue, chain_put, chain_forget}
 use Rattle.hk_facts.proofs.ForgottenParts.{nothing_left}
 use Rattle.hk_facts.proofs.StoredTrees.{is_there, set_at_same}
 use Rattle.hk_slots.specs.SlotMaps.{Slots, map_of, IsWritten}
 use Rattle.hk_store.specs.Facts.{ChainsValue, stored_version, facts_of, no_facts, known_at, AreStored, facts_without}
-use Rattle.hk_store.specs.Indexed.{tag_lost, end_lost, tag_of_part, end_of_part}
+use Rattle.hk_store.specs.Indexed.{}
 use Rattle.hk_store.proofs.StoredFacts.{get_row, get_end, known_stored, nothing_known}
 use Rattle.hk_store.proofs.ChangedChains.{IsChainOf, IsChanged, row_is, same_facts, put_some, known_put, facts_forgotten, known_forgotten}
 
@@ -62,28 +60,6 @@ module _ (m : Slots RowKey ChainValue) (stored : AreStored (seen m)) (k : RowKey
   pub chain_filled : (r : Option (Bor ChainValue)) → option_copied r ≡ finmap.get (seen m) k → IfSome r (λ c. 0 < finmap.len c.now)
   chain_filled None has = tt
   chain_filled (Some c) has = stored.filled k c.now (sym has)
-
--- ---- what goes with a part
-
-tag_stored : (m : ChainsValue) (v : VersionKey) (part : Part) → tag_of_part (stored_version m v) part ≡ tag_lost (facts_of m) v part
-tag_stored m v RowPart = ap (option_map (λ (r : RowValue). r.tag)) (sym (get_row m v))
-tag_stored m v EndPart = refl
-tag_stored m v Whole = ap (option_map (λ (r : RowValue). r.tag)) (sym (get_row m v))
-
-end_stored : (m : ChainsValue) (v : VersionKey) (part : Part) → end_of_part (stored_version m v) part ≡ end_lost (facts_of m) v part
-end_stored m v RowPart = refl
-end_stored m v EndPart = sym (get_end m v)
-end_stored m v Whole = sym (get_end m v)
-
-no_tag : (part : Part) → None ≡ tag_of_part None part
-no_tag RowPart = refl
-no_tag EndPart = refl
-no_tag Whole = refl
-
-no_end : (part : Part) → None ≡ end_of_part None part
-no_end RowPart = refl
-no_end EndPart = refl
-no_end Whole = refl
 
 -- ---- chains that are not empty
 
@@ -174,13 +150,6 @@ module _ (m : Slots RowKey ChainValue) (k : RowKey) (v : VersionKey) (at : k ≡
             known = known_forgotten part (seen m) (seen r) v c None (chain_there c has) changed_gone nothing_there stored.known;
           }
 
-    -- the chain has the tag and the end that go
-    pub tag_there : (part : Part) → tag_of_part (finmap.get c v.born) part ≡ tag_lost (facts_of (seen m)) v part
-    tag_there part = ap (λ o. tag_of_part o part) (chain_there c has v.born) ∙ tag_stored (seen m) v part
-
-    pub end_there : (part : Part) → end_of_part (finmap.get c v.born) part ≡ end_lost (facts_of (seen m)) v part
-    end_there part = ap (λ o. end_of_part o part) (chain_there c has v.born) ∙ end_stored (seen m) v part
-
   -- nothing is taken back of what is not there
   pub forgot_absent : (part : Part) → None ≡ finmap.get (seen m) k → facts_of (seen m) ≡ facts_without (facts_of (seen m)) v part
   forgot_absent part none =
@@ -191,9 +160,3 @@ module _ (m : Slots RowKey ChainValue) (k : RowKey) (v : VersionKey) (at : k ≡
       here : (q : RowKey) (b : Bool) → eq_by_cmp row_key_cmp q (row_key_of v) ≡ b → finmap.get (seen m) q ≡ cond b None (finmap.get (seen m) q)
       here q true e = ap (finmap.get (seen m)) (row_is q (row_key_of v) e ∙ sym at) ∙ sym (none)
       here q false e = refl
-
-  pub tag_absent : (part : Part) → None ≡ finmap.get (seen m) k → None ≡ tag_lost (facts_of (seen m)) v part
-  tag_absent part none = no_tag part ∙ ap (λ o. tag_of_part o part) (nothing_at none) ∙ tag_stored (seen m) v part
-
-  pub end_absent : (part : Part) → None ≡ finmap.get (seen m) k → None ≡ end_lost (facts_of (seen m)) v part
-  end_absent part none = no_end part ∙ ap (λ o. end_of_part o part) (nothing_at none) ∙ end_stored (seen m) v part

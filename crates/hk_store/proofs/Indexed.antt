@@ -1,34 +1,28 @@
 -- Indexes follow the facts.
-use Rattle.std.proofs.Common.{◌≡◌, refl, sym, ap, ◌∙◌, ℕ, Bool, true, false, cond, ◌||◌, Option, Some, None, Ok, Err, option_map}
+use Rattle.std.proofs.Common.{◌≡◌, refl, sym, ap, ◌∙◌, ℕ, Bool, true, false, cond, ◌||◌, Option, Some, None, Ok, Err}
 use Rattle.std.specs.Option.{is_some}
 use Rattle.std.specs.FinMap as finmap
-use Rattle.std.specs.FinSet as set
 use Rattle.hk_types.specs.Values.{RowValue}
 use Rattle.hk_types.specs.declared.version_key.VersionKey.{VersionKey}
 use Rattle.hk_types.specs.declared.faults.Refusal.TheVariants.{Conflict}
 use Rattle.hk_model.specs.History.Rows.{version_key_cmp}
 use Rattle.hk_model.specs.Replica.Maps.{or_else}
 use Rattle.hk_index.specs.Tags.{TagKeysValue, StillListed, is_listed}
-use Rattle.hk_index.specs.Timed.{timed_cmp, is_at}
 use Rattle.hk_facts.specs.declared.fact.Fact.{Fact}
 use Rattle.hk_facts.specs.declared.fact.Fact.TheVariants.{Row}
 use Rattle.hk_facts.specs.declared.fact.Part.{Part}
 use Rattle.hk_facts.specs.declared.fact.Part.TheVariants.{Row as RowPart, End as EndPart, Whole}
 use Rattle.hk_facts.specs.Facts.{if_known}
 use Rattle.hk_store.specs.Facts.{FactsValue, no_facts, known_at, with_fact_at, facts_put, facts_without, conflicts_at}
-use Rattle.hk_store.specs.Indexed.{has_fact, AllListed, AreIndexed}
+use Rattle.hk_store.specs.Indexed.{has_fact, AllListed}
 use Rattle.hk_store.proofs.StoredFacts.{tied}
 use Rattle.hk_store.proofs.ChangedChains.{get-added, get-without, tied_is}
 
 no_value : {X : Type 0} {x : X} → None ≡ Some x → ⊥
 no_value e = cc
 
-pub none_indexed : AreIndexed no_facts finmap.empty set.empty set.empty
-none_indexed = record {
-  born = λ t v. set.contains-empty timed_cmp (record { time = t; version = v }) ∙ ap (λ (o : Option RowValue). is_at t (option_map (λ (r : RowValue). v.born) o)) (sym (finmap.get-empty version_key_cmp v));
-  dead = λ t v. set.contains-empty timed_cmp (record { time = t; version = v }) ∙ ap (is_at t) (sym (finmap.get-empty version_key_cmp v));
-  tagged = λ v row e. absurd (no_value (sym (finmap.get-empty version_key_cmp v) ∙ e));
-}
+pub none_tagged : AllListed no_facts finmap.empty
+none_tagged v row e = absurd (no_value (sym (finmap.get-empty version_key_cmp v) ∙ e))
 
 -- nothing is listed in vain for a row that goes, and what was listed serves the rows that stay
 pub fewer_listed : (f g : FactsValue) (keys : TagKeysValue) → ((v : VersionKey) (row : RowValue) → finmap.get g.rows v ≡ Some row → finmap.get f.rows v ≡ Some row) → AllListed f keys → AllListed g keys

@@ -9,9 +9,9 @@ mod NewFacts
 pub mod Conflicts
 pub mod EntryConflicts
 pub mod EntryPut
-pub mod TimedFacts
+pub mod StatedFacts
+pub mod SoughtVersions
 pub mod DroppedVersions
-pub mod LeftBirths
 pub mod Indexed
 pub mod ChainsAtTime
 pub mod CountedRows

@@ -1,6 +1,7 @@
 -- Chains of which the ended versions are dropped, row by row.
-use Rattle.std.proofs.Common.{◌≡◌, refl, sym, ap, ◌∙◌, subst, ℕ, ◌<◌, Bool, true, false, cond, not, ◌&&◌, Option, Some, None, is_some, IsSome, nat_cmp, ◌⊎◌, inl, inr, ◌≤◌, ◌+◌, arith}
+use Rattle.std.proofs.Common.{◌≡◌, refl, sym, ap, ◌∙◌, subst, ℕ, ◌<◌, Bool, true, false, cond, not, ◌&&◌, Option, Some, None, is_some, IsSome, nat_cmp, ◌⊎◌, inl, inr, ◌≤◌, ◌+◌, ◌||◌, List, [], ◌∷◌, ◌++◌, true≢false, arith}
 use Rattle.std.proofs.lemmas.Bool.{cases_lt}
+use Rattle.std.proofs.lemmas.List.Folds.{list_any-append}
 use Rattle.std.specs.Cmp.{nat_cmp_total}
 use Rattle.std.specs.Option.{option_and_then}
 use Rattle.std.specs.Ordering.{eq_by_cmp}
@@ -18,7 +19,8 @@ use Rattle.hk_slots.proofs.SeenSlots.{unmapped}
 use Rattle.hk_slots.proofs.Tied.{tied_self}
 use Rattle.hk_store.specs.Drops.{pruned_facts}
 use Rattle.hk_store.specs.Facts.{ChainsValue, stored_version, facts_of, AllKnown, AreStored}
-use Rattle.hk_store.specs.Sweeps.{HasFewerSlots, IsSwept}
+use Rattle.hk_index.specs.Timed.{is_among}
+use Rattle.hk_store.specs.Sweeps.{HasEnded, HasFewerSlots, IsSwept}
 use Rattle.hk_store.proofs.StoredFacts.{get_row, get_end}
 use Rattle.hk_store.proofs.ChangedChains.{IsChanged, row_is, same_facts}
 use Rattle.hk_store.proofs.FactsByRow.{seen, Updates, get_updated, filled_by, filled_changed, some_filled, none_filled}
@@ -127,6 +129,40 @@ changed_swept m n row h c w has is left q =
         ∙ get-retain nat_cmp_total finmap.nat_cmp-IsAntisymmetric c (λ born. not (at_most h (died_of (finmap.get c born)))) q.born
         ∙ ap (λ x. cond (not (at_most h (died_of x))) x None) (here e)
         ∙ turned (has_ended m h q) (stored_version m q)
+    by false e = refl
+
+-- ---- by a list of rows
+
+-- each row of a list is passed
+abbrev pub ArePassedRows : ChainsValue → ℕ → List RowKey → Type 0
+ArePassedRows m h rows = (row : RowKey) → is_among rows row ≡ true → NoneEnded m h row
+
+pub none_listed : (m : ChainsValue) (h : ℕ) → ArePassedRows m h []
+none_listed m h row e = cc
+
+module _ (m n : ChainsValue) (row : RowKey) (h : ℕ) (is : IsSwept m n row h) where
+  -- what ended is still of one of the rows
+  pub swept_listed : (rows : List RowKey) → HasEnded m h rows → HasEnded n h rows
+  swept_listed rows listed q e = by (has_ended m h q) refl
+    where
+      by : (b : Bool) → has_ended m h q ≡ b → is_among rows (row_key_of q) ≡ true
+      by true f = listed q f
+      by false f = absurd (true≢false (sym e ∙ still_none m n row h is q f))
+
+  pub swept_more : (rows more : List RowKey) → more ≡ rows ++ row ∷ [] → ArePassedRows m h rows → ArePassedRows n h more
+  swept_more rows more is_more passed k e = by (is_among rows k) refl (eq_by_cmp row_key_cmp k row) refl (sym (ap (λ l. is_among l k) is_more ∙ list_any-append (eq_by_cmp row_key_cmp k) rows (row ∷ [])) ∙ e)
+    where
+      by : (a : Bool) → is_among rows k ≡ a → (b : Bool) → eq_by_cmp row_key_cmp k row ≡ b → (a || (b || false)) ≡ true → NoneEnded n h k
+      by true f b g _ = λ born. still_none m n row h is (version_of k born) (passed k f born)
+      by false f true g _ = subst (λ (r : RowKey). NoneEnded n h r) (sym (row_is k row g)) (none_left m n row h is)
+      by false f false g e = cc
+
+-- where all that ended is of rows that were passed, nothing ended
+pub listed_left : (m : ChainsValue) (h : ℕ) (rows passed : List RowKey) → passed ≡ rows → HasEnded m h rows → ArePassedRows m h passed → (q : VersionKey) → has_ended m h q ≡ false
+listed_left m h rows passed all listed done q = by (has_ended m h q) refl
+  where
+    by : (b : Bool) → has_ended m h q ≡ b → b ≡ false
+    by true e = sym e ∙ done (row_key_of q) (ap (λ l. is_among l (row_key_of q)) all ∙ listed q e) q.born
     by false e = refl
 
 -- ---- by the slots

@@ -52,7 +52,7 @@ some_is x y e = cc
 pub none_is : {P : Type 0} (x : RowValue) → ◌≡◌ {A = Option RowValue} None (Some x) → P
 none_is x e = cc
 
-all_In : {X : Type 0} (P : X → Type 0) (xs : List X) → All P xs → (x : X) → In x xs → P x
+pub all_In : {X : Type 0} (P : X → Type 0) (xs : List X) → All P xs → (x : X) → In x xs → P x
 all_In P [] all x i = absurd i
 all_In P (y ∷ ys) all x (inl e) = subst P (sym e) (All-head P y ys all)
 all_In P (y ∷ ys) all x (inr i) = all_In P ys (All-tail P y ys all) x i

@@ -82,7 +82,7 @@ module _ (q : VersionKey) where
       cases true b = refl
       cases false b = refl
 
-  find_in_rows : (rows : List Row) → T (is_sorted row_key_cmp rows) → find version_key_cmp q (versions_of_rows rows) ≡ option_and_then (λ (c : ChainValue). finmap.get c q.born) (find row_key_cmp (row_key_of q) rows)
+  pub find_in_rows : (rows : List Row) → T (is_sorted row_key_cmp rows) → find version_key_cmp q (versions_of_rows rows) ≡ option_and_then (λ (c : ChainValue). finmap.get c q.born) (find row_key_cmp (row_key_of q) rows)
   find_in_rows rows sorted =
       find_flat row_key_cmp row_key_same version_key_cmp q (row_key_of q) (λ r. versions_of_row r.0 (finmap.entries r.1)) (λ (c : ChainValue). finmap.get c q.born) true
       (λ r. find_in_row r.0 (finmap.entries r.1) ∙ ap (λ x. cond (eq_by_cmp row_key_cmp (row_key_of q) r.0) x None) (sym (finmap.get-entries r.1 q.born)))
@@ -157,7 +157,7 @@ row_then k (e ∷ es) rows sorted below rest =
     (below_append (version_of k e.0) (versions_of_row k es) (versions_of_rows rows) (row_below k e.0 es both.0) (rows_below k e.0 rows below))
     (row_then k es rows both.1 below rest)
 
-rows_sorted : (rows : List Row) → T (is_sorted row_key_cmp rows) → T (is_sorted version_key_cmp (versions_of_rows rows))
+pub rows_sorted : (rows : List Row) → T (is_sorted row_key_cmp rows) → T (is_sorted version_key_cmp (versions_of_rows rows))
 rows_sorted [] sorted = tt
 rows_sorted (r ∷ rows) sorted =
     let both = T_both (below_all row_key_cmp r.0 rows) (is_sorted row_key_cmp rows) sorted in

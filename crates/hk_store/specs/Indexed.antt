@@ -1,5 +1,5 @@
 -- What the indexes of facts hold.
-use Rattle.std.specs.Prelude.{◌≡◌, ℕ, Bool, true, false, ◌==◌, ◌||◌, ◌&&◌, ◌++◌, is_some, not, if◌then◌else◌, List, Option, Some, None, ◌⊎◌, Err}
+use Rattle.std.specs.Prelude.{◌≡◌, ◌≤◌, ℕ, Bool, true, false, ◌==◌, ◌||◌, ◌&&◌, ◌++◌, is_some, if◌then◌else◌, List, Option, Some, None, ◌⊎◌, Err}
 use Rattle.std.specs.List.{flat_map, list_any}
 use Rattle.std.specs.Ordering.{eq_by_cmp}
 use Rattle.std.specs.Option.{option_map}
@@ -9,17 +9,13 @@ use Rattle.hk_types.specs.Values.{RowValue}
 use Rattle.hk_types.specs.declared.faults.Refusal.{Refusal}
 use Rattle.hk_types.specs.declared.faults.Refusal.TheVariants.{Memory}
 use Rattle.hk_types.specs.declared.version_key.VersionKey.{VersionKey}
-use Rattle.hk_log.specs.Versions.{VersionValue}
-use Rattle.hk_model.specs.History.Rows.{version_key_cmp}
+use Rattle.hk_model.specs.History.Rows.{row_key_of, version_key_cmp}
 use Rattle.hk_model.specs.History.Histories.{Tables}
 use Rattle.hk_index.specs.Tags.{TagKeysValue, is_listed, is_one_of}
-use Rattle.hk_index.specs.declared.timed.TimedVersion.{TimedVersion}
-use Rattle.hk_index.specs.Timed.{timed_cmp, AreTimed, passes_at}
+use Rattle.hk_index.specs.Timed.{timed_cmp, has_row}
+use Rattle.hk_index.specs.declared.timed_row.TimedRow.{TimedRow}
 use Rattle.hk_facts.specs.declared.fact.Fact.{Fact}
 use Rattle.hk_facts.specs.declared.fact.Fact.TheVariants.{Row, End}
-use Rattle.hk_facts.specs.declared.fact.Part.{Part}
-use Rattle.hk_facts.specs.declared.fact.Part.TheVariants.{Row as RowPart, End as EndPart, Whole}
-use Rattle.hk_facts.specs.Facts.{row_of, died_of}
 use Rattle.hk_store.specs.Facts.{FactsValue, known_at, facts_put}
 use Rattle.hk_store.specs.Reads.{keyed_if}
 
@@ -80,10 +76,25 @@ born_at f v = option_map (λ row. v.born) (finmap.get f.rows v)
 abbrev pub died_at : FactsValue → VersionKey → Option ℕ
 died_at f v = finmap.get f.ends v
 
-pub record AreIndexed (f : FactsValue) (keys : TagKeysValue) (births deaths : set.FinSet timed_cmp) : Type 0 where
+-- the row of a version with the time of its birth
+abbrev pub birth_of : VersionKey → TimedRow
+birth_of v = record { time = v.born; row = row_key_of v }
+
+-- the row of each version is there with the time of its birth, where its row is known, and with that of its end
+pub record AreStated (f : FactsValue) (index : set.FinSet timed_cmp) : Type 0 where
+  pub born : (v : VersionKey) (row : RowValue) → finmap.get f.rows v ≡ Some row → has_row index v.born (row_key_of v) ≡ true
+  pub dead : (v : VersionKey) (died : ℕ) → finmap.get f.ends v ≡ Some died → has_row index died (row_key_of v) ≡ true
+
+-- the keys are listed by tag and by time, and no end is before a first time
+pub record AreIndexed (f : FactsValue) (keys : TagKeysValue) (index : set.FinSet timed_cmp) (first : ℕ) : Type 0 where
   pub tagged : AllListed f keys
-  pub born : AreTimed (born_at f) births
-  pub dead : AreTimed (died_at f) deaths
+  pub stated : AreStated f index
+  pub later : (v : VersionKey) (died : ℕ) → finmap.get f.ends v ≡ Some died → first ≤ died
+
+-- whether there is a time, and it passes a test
+abbrev pub passes_at : (ℕ → Bool) → Option ℕ → Bool
+passes_at test None = false
+passes_at test (Some t) = test t
 
 -- whether a version has a row that was born at a time that passes a test, or an end at such a time
 abbrev pub is_stated : FactsValue → (ℕ → Bool) → VersionKey → Bool
@@ -105,40 +116,3 @@ RefusesUnknown f v fact why = (facts_put f v fact ≡ Err why) ⊎ ((why ≡ Mem
 -- the list has the versions of some keys of a table whose row has a tag
 abbrev pub AreTaggedOf : FactsValue → ℕ → ℕ → List ℕ → List VersionKey → Type 0
 AreTaggedOf f table tag keys found = (v : VersionKey) → list_any (eq_by_cmp version_key_cmp v) found ≡ (is_one_of keys v.key && (has_tag f tag v && v.table == table))
-
--- the tag of the row that is taken back with a part of a version
-abbrev pub tag_lost : FactsValue → VersionKey → Part → Option ℕ
-tag_lost f v EndPart = None
-tag_lost f v RowPart = option_map (λ r. r.tag) (finmap.get f.rows v)
-tag_lost f v Whole = option_map (λ r. r.tag) (finmap.get f.rows v)
-
--- the end that is taken back with a part of a version
-abbrev pub end_lost : FactsValue → VersionKey → Part → Option ℕ
-end_lost f v EndPart = finmap.get f.ends v
-end_lost f v RowPart = None
-end_lost f v Whole = finmap.get f.ends v
-
--- the tag of the row that goes with a part of what is known of a version
-abbrev pub tag_of_part : Option VersionValue → Part → Option ℕ
-tag_of_part known EndPart = None
-tag_of_part known RowPart = option_map (λ r. r.tag) (row_of known)
-tag_of_part known Whole = option_map (λ r. r.tag) (row_of known)
-
--- the end that goes with a part of what is known of a version
-abbrev pub end_of_part : Option VersionValue → Part → Option ℕ
-end_of_part known EndPart = died_of known
-end_of_part known RowPart = None
-end_of_part known Whole = died_of known
-
--- an index by time without a version that has this time
-abbrev pub times_without : set.FinSet timed_cmp → VersionKey → Option ℕ → set.FinSet timed_cmp
-times_without index v None = index
-times_without index v (Some time) = set.remove index (record { time = time; version = v })
-
--- whether a version's birth is that of one of these
-abbrev pub is_birth_of : List VersionKey → TimedVersion → Bool
-is_birth_of versions t = list_any (λ v. eq_by_cmp timed_cmp t (record { time = v.born; version = v })) versions
-
--- an index by birth without these versions
-abbrev pub BirthsLeft : set.FinSet timed_cmp → List VersionKey → set.FinSet timed_cmp → Type 0
-BirthsLeft old versions new = (t : TimedVersion) → set.contains new t ≡ (not (is_birth_of versions t) && set.contains old t)

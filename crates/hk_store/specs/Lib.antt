@@ -6,6 +6,7 @@ pub mod Undos
 pub mod Learning
 pub mod Paging
 pub mod Reads
+pub mod Stated
 pub mod Sweeps
 pub mod Versions
 pub mod TableLists

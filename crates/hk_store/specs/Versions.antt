@@ -17,6 +17,10 @@ use Rattle.hk_store.specs.Drops.{is_among}
 abbrev pub borrowed : VersionKey × Bor VersionValue → VersionKey × VersionValue
 borrowed e = (e.0, e.1.now)
 
+-- some versions come to the end of a list
+abbrev pub AddsVersions : List (VersionKey × Bor VersionValue) → List (VersionKey × Bor VersionValue) → List (VersionKey × VersionValue) → Type 0
+AddsVersions old new coming = map borrowed new ≡ map borrowed old ++ coming
+
 -- the list has each version of which anything is known, with what is known of it, in rising order
 pub record AreVersions (f : FactsValue) (versions : List (VersionKey × VersionValue)) : Type 0 where
   pub known : All (λ e. known_at f e.0 ≡ Some e.1) versions

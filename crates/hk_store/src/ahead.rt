@@ -1,7 +1,7 @@
 //! A look ahead of a walk.
 
-use crate::row_key::RowKey;
 use hk_facts::Chain;
+use hk_index::RowKey;
 use hk_log::Version;
 use hk_slots::{Range, SlotMap};
 

@@ -14,14 +14,13 @@ ghost use Rattle.hk_facts.specs.Chains.{row_at};
 ghost use Rattle.hk_slots.specs.SlotMaps.{map_of};
 ghost use Rattle.hk_store.specs.Reads.{with_facts, count_rows, rows_ranged};
 ghost use Rattle.hk_store.specs.Facts.{KeepsFilled, LosesEmpty, IsChainAt, IsUnknown, no_facts, known_at, facts_put, facts_without};
-ghost use Rattle.hk_store.specs.Indexed.{IsNew, tag_lost, end_lost, tag_of_part, end_of_part, RefusesUnknown};
+ghost use Rattle.hk_store.specs.Indexed.{IsNew, RefusesUnknown};
 
 use crate::ranges::rows_in_range;
-use crate::row_key::RowKey;
 use hk_facts::{Chain, Fact, Part};
-use hk_log::Version;
+use hk_index::RowKey;
 use hk_slots::SlotMap;
-use hk_types::{Key, Refusal, Row, Table, Tag, Time, VersionKey};
+use hk_types::{Key, Refusal, Row, Table, Time, VersionKey};
 use std::alloc::{AllocError, Global};
 use std::marker::Model;
 
@@ -47,12 +46,12 @@ impl Model for Chains {
     ghost invariant = { λ a. AreStored (map_of row_key_cmp a.chains) };
 }
 
-/// What is removed with a part of a version, where it was known: the tag of the row, how many bytes its body has, and the end.
+/// How much is removed with a part of a version: rows, the bytes of their bodies, and ends.
 #[derive(Drop)]
 pub(crate) struct Lost {
-    pub(crate) tag: Option<Tag>,
-    pub(crate) bytes: usize,
-    pub(crate) died: Option<Time>,
+    pub(crate) rows: u64,
+    pub(crate) bytes: u64,
+    pub(crate) ends: u64,
 }
 
 impl Chains {
@@ -130,19 +129,17 @@ impl Chains {
         }
     }
 
-    /// Removes a part of a version, its row or its end or both, where it is known, and returns what was removed.
-    /// Cost: O(log n), n facts.
+    /// Removes a part of a version, its row or its end or both, where it is known, and returns how much was removed, which
+    /// promises nothing. Cost: O(log n), n facts.
     pub(crate) fn forget(&mut self, version: &VersionKey, part: Part) -> Lost
-        ensures left { self.new ≡ facts_without self.old version.now part }
-        ensures tag { result.tag ≡ tag_lost self.old version.now part }
-        ensures died { result.died ≡ end_lost self.old version.now part }
+        ensures { self.new ≡ facts_without self.old version.now part }
     {
         let row = RowKey::of_version(version);
         let Some(chain) = self.chains.get_mut(row) else {
             return Lost {
-                tag: None,
+                rows: 0,
                 bytes: 0,
-                died: None,
+                ends: 0,
             };
         };
         let lost = lost_of(chain, version.born, part);
@@ -208,46 +205,17 @@ fn remove_if_empty(chains: &mut SlotMap<RowKey, Chain>, row: RowKey)
     }
 }
 
-/// What is removed with a part of the version that was born then.
-fn lost_of(chain: &Chain, born: Time, part: Part) -> Lost
-    ensures tag { result.tag ≡ tag_of_part (finmap.get chain.now born) part }
-    ensures died { result.died ≡ end_of_part (finmap.get chain.now born) part }
-{
+/// How much is removed with a part of the version that was born then.
+fn lost_of(chain: &Chain, born: Time, part: Part) -> Lost {
     let known = chain.version(born);
+    let row = known.and_then(|version| version.row());
+    let row = if part == Part::End { None } else { row };
+    let end = known.and_then(|version| version.died());
     Lost {
-        tag: known.and_then(|version| tag_in(version, part)),
-        bytes: known.map_or(0, body_bytes),
-        died: known.and_then(|version| end_in(version, part)),
+        rows: row.is_some() as u64,
+        bytes: row.map_or(0, |row| row.body().len() as u64),
+        ends: (end.is_some() && part != Part::Row) as u64,
     }
-}
-
-/// How many bytes the body of a version's row has.
-fn body_bytes(version: &Version) -> usize {
-    match version.row() {
-        Some(row) => row.body().len(),
-        None => 0,
-    }
-}
-
-/// The tag of the row that is removed with a part of a version.
-fn tag_in(version: &Version, part: Part) -> Option<Tag>
-    ensures { result ≡ tag_of_part (Some version.now) part }
-{
-    if part == Part::End {
-        return None;
-    }
-    let row = version.row()?;
-    Some(row.tag())
-}
-
-/// The end that is removed with a part of a version.
-fn end_in(version: &Version, part: Part) -> Option<Time>
-    ensures { result ≡ end_of_part (Some version.now) part }
-{
-    if part == Part::Row {
-        return None;
-    }
-    version.died()
 }
 
 /// How many chains of a table have a row at a time, of those from a row on.

@@ -18,13 +18,12 @@ impl Facts {
     {
         let chains = self.chains.copy(alloc)?;
         let tags = keys_by_tag(alloc, &chains)?;
-        let births = self.births.copy(alloc)?;
-        let deaths = self.deaths.copy(alloc)?;
+        let stated = self.stated.copy(alloc)?;
         Ok(Facts {
             chains,
             tags,
-            births,
-            deaths,
+            stated,
+            first_end: self.first_end,
             spare: Undo::new(alloc),
             tally: self.tally,
         })

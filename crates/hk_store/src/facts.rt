@@ -2,7 +2,7 @@
 
 ghost use Rattle.std.specs.Prelude.{◌≡◌, ◌==◌, ◌++◌, ◌∷◌, [], length, true, is_some, ◌⊎◌, ◌<◌, OnOk, OnErr, IfErr, IfOk, IfSome, IfNone, Ok, Err, Some, None, ℕ};
 ghost use Rattle.std.specs.Bool.{OnTrue, OnFalse};
-ghost use Rattle.std.specs.Option.{option_copied, option_map};
+ghost use Rattle.std.specs.Option.{option_copied};
 ghost use Rattle.std.specs.FinMap as finmap;
 ghost use Rattle.std.specs.FinSet as set;
 ghost use Rattle.hk_types.specs.declared.faults.Refusal.TheVariants.{Memory};
@@ -13,27 +13,29 @@ ghost use Rattle.hk_store.specs.Reads.{with_facts};
 ghost use Rattle.hk_store.specs.Facts.{IsChainAt, IsUnknown, no_facts, known_at, facts_put, facts_without};
 ghost use Rattle.hk_store.specs.Undos.{rolled_back};
 ghost use Rattle.hk_index.specs.Tags.{StillListed, is_listed};
-ghost use Rattle.hk_store.specs.Indexed.{AreTagged, AreKeyed, IsNew, times_without, RefusesNew};
+ghost use Rattle.hk_store.specs.Indexed.{AreTagged, AreKeyed, IsNew, RefusesNew, birth_of};
 
 use crate::chains::Chains;
 use crate::key_index::KeyIndex;
+use crate::stated::rows_by_time;
 use crate::tag_index::TagIndex;
 use crate::tagged::keys_by_tag;
 use crate::tally::Tally;
 use crate::undo::Undo;
 use hk_facts::{Chain, Fact, Part};
-use hk_index::{BirthIndex, TagKeys, TimeIndex};
+use hk_index::{RowKey, TagKeys, TimedRows};
 use hk_types::{Key, Refusal, Row, Table, Tag, Time, VersionKey};
 use std::alloc::Global;
 use std::marker::Model;
 
-/// The rows and the ends of all versions, with lists of the keys that have a row with a tag, and two indexes: by the time
-/// of birth of those whose row is known, and by the time of death of those whose end is known.
+/// The rows and the ends of all versions, with lists of the keys that have a row with a tag, and of the keys of which anything is
+/// stated at a time: those of which a version is known to be born then, or to end then, and others besides.
 pub struct Facts {
     pub(crate) chains: Chains,
     pub(crate) tags: TagKeys,
-    pub(crate) births: BirthIndex,
-    pub(crate) deaths: TimeIndex,
+    pub(crate) stated: TimedRows,
+    /// No end before this time is known.
+    pub(crate) first_end: u64,
     /// A list for the next undo, with nothing in it that counts.
     pub(crate) spare: Undo,
     /// How much is held.
@@ -46,15 +48,14 @@ impl Drop for Facts {
         let Facts {
             chains,
             tags,
-            births,
-            deaths,
+            stated,
+            first_end: _,
             spare,
             tally: _,
         } = self;
         drop(chains);
         drop(tags);
-        drop(births);
-        drop(deaths);
+        drop(stated);
         drop(spare);
     }
 }
@@ -69,7 +70,7 @@ impl Model for Facts {
 
     ghost view = { λ a. a.chains };
 
-    ghost invariant = { λ a. AreIndexed a.chains a.tags a.births a.deaths };
+    ghost invariant = { λ a. AreIndexed a.chains a.tags a.stated a.first_end };
 }
 
 impl Facts {
@@ -80,8 +81,8 @@ impl Facts {
         Facts {
             chains: Chains::new(alloc),
             tags: TagKeys::new(alloc),
-            births: BirthIndex::new(alloc),
-            deaths: TimeIndex::new(alloc),
+            stated: TimedRows::new(alloc),
+            first_end: u64::MAX,
             spare: Undo::new(alloc),
             tally: Tally::none(),
         }
@@ -187,7 +188,7 @@ impl Facts {
         if !self.chains.put(version, Fact::Row(row))? {
             return Ok(false);
         }
-        if let Err(why) = add_birth(&mut self.tags, &mut self.births, version, tag) {
+        if let Err(why) = list_row(&mut self.tags, &mut self.stated, version, tag) {
             self.chains.forget(version, Part::Row);
             return Err(why);
         }
@@ -212,10 +213,11 @@ impl Facts {
         if !self.chains.put(version, Fact::End(died))? {
             return Ok(false);
         }
-        if let Err(why) = self.deaths.add(died, *version) {
+        if let Err(why) = self.stated.add(died, RowKey::of_version(version)) {
             self.chains.forget(version, Part::End);
             return Err(why);
         }
+        self.first_end = self.first_end.min(died.number());
         self.tally.add_end();
         self.note(undo, version, Part::End)
     }
@@ -243,13 +245,22 @@ impl Facts {
     {
         let lost = self.chains.forget(version, part);
         self.tally.lose(&lost);
-        forget_birth(&mut self.tags, &mut self.births, version, lost.tag);
-        forget_death(&mut self.deaths, version, lost.died);
-        self.tidy();
+        self.tags.note_gone(lost.rows);
+        self.stated.note_gone(lost.rows.saturating_add(lost.ends));
+        self.tidy_tags();
+        self.tidy_stated();
+    }
+
+    /// Notes that no end up to a time is known, so that none is looked for there. Cost: O(1).
+    pub fn note_ends_above(&mut self, time: Time)
+        requires { (v : VersionKey) (died : ℕ) → finmap.get self.old.ends v ≡ Some died → time < died }
+        ensures { self.new ≡ self.old }
+    {
+        self.first_end = self.first_end.max(time.number() + 1);
     }
 
     /// Lists the keys by tag anew, where many are listed in vain and there is memory for it.
-    pub(crate) fn tidy(&mut self)
+    pub(crate) fn tidy_tags(&mut self)
         ensures { self.new ≡ self.old }
     {
         if !self.tags.is_worn() {
@@ -259,43 +270,34 @@ impl Facts {
             self.tags = tags;
         }
     }
+
+    /// Lists them anew by time, where many are listed in vain and there is memory for it.
+    pub(crate) fn tidy_stated(&mut self)
+        ensures { self.new ≡ self.old }
+    {
+        if !self.stated.is_worn() {
+            return;
+        }
+        if let Ok(stated) = rows_by_time(self.chains.allocator(), &self.chains) {
+            self.stated = stated;
+        }
+    }
 }
 
-/// Lists a version's key by its tag, and adds the version to those whose row is known.
+/// Lists a version's key by its tag, and by the time of its birth.
 #[inline(always)]
-fn add_birth(
+fn list_row(
     tags: &mut TagKeys,
-    births: &mut BirthIndex,
+    stated: &mut TimedRows,
     version: &VersionKey,
     tag: Tag,
 ) -> Result<(), Refusal>
     ensures listed { OnOk result (is_listed tags.new version.now.table tag version.now.key ≡ true) }
     ensures kept { StillListed tags.old tags.new }
-    ensures timed { OnOk result (births.new
-        ≡ set.insert births.old (record { time = version.now.born; version = version.now })) }
+    ensures stated { OnOk result (stated.new ≡ set.insert stated.old (birth_of version.now)) }
     ensures err { IfErr result (λ why. why ≡ Memory) }
-    ensures untimed { OnErr result (births.new ≡ births.old) }
+    ensures unstated { OnErr result (stated.new ≡ stated.old) }
 {
     tags.add(version.table, tag, version.key)?;
-    births.add(*version)
-}
-
-/// Removes a version from the index of those whose row is known, where a row with this tag is removed.
-fn forget_birth(tags: &mut TagKeys, births: &mut BirthIndex, version: &VersionKey, tag: Option<Tag>)
-    ensures tags { tags.new ≡ tags.old }
-    ensures births { births.new ≡ times_without births.old version.now (option_map (λ t. version.now.born) tag) }
-{
-    if tag.is_some() {
-        tags.note_gone();
-        births.remove(*version);
-    }
-}
-
-/// Removes a version from the index of those whose end is known, where this end is removed.
-fn forget_death(deaths: &mut TimeIndex, version: &VersionKey, died: Option<Time>)
-    ensures { deaths.new ≡ times_without deaths.old version.now died }
-{
-    if let Some(died) = died {
-        deaths.remove(died, *version);
-    }
+    stated.add(version.born, RowKey::of_version(version))
 }

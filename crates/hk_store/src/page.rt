@@ -15,8 +15,8 @@ ghost use Rattle.hk_store.specs.Reads.{keyed_if, rows_from_to, rows_ranged};
 
 use crate::chains::Chains;
 use crate::facts::Facts;
-use crate::row_key::RowKey;
 use hk_facts::Chain;
+use hk_index::RowKey;
 use hk_model::Page;
 use hk_slots::SlotMap;
 use hk_types::{Key, Refusal, Row, Table, Time};

@@ -11,8 +11,8 @@ ghost use Rattle.hk_facts.specs.Chains.{row_at};
 ghost use Rattle.hk_slots.specs.SlotMaps.{map_of};
 ghost use Rattle.hk_store.specs.Reads.{keyed_if, rows_at, with_facts, rows_from_to};
 
-use crate::row_key::RowKey;
 use hk_facts::Chain;
+use hk_index::RowKey;
 use hk_slots::SlotMap;
 use hk_types::{Key, Row, Time};
 use std::alloc::{AllocError, Global};

@@ -1,8 +1,8 @@
 //! How many bytes an answer would take, before anything of it is made.
 
 use crate::facts::Facts;
-use crate::row_key::RowKey;
-use hk_types::{Key, Refusal, Row, Table, Tag, Time, VersionKey};
+use hk_index::RowKey;
+use hk_types::{Key, Refusal, Row, Table, Tag, Time};
 use std::alloc::Global;
 
 /// How many bytes a row has in a message beside its body, at most.
@@ -41,23 +41,21 @@ impl Facts {
         rows.saturating_add(ends).saturating_add(self.tally.bytes)
     }
 
-    /// How many bytes the rows of versions take in a fragment, with the versions, at most.
-    fn bytes_of_rows(&self, versions: &[VersionKey]) -> u64 {
-        let mut bytes = 0u64;
-        for version in versions {
-            let row = row_bytes(self.row_at(version));
-            bytes = bytes.saturating_add(BESIDE_VERSION).saturating_add(row);
-        }
-        bytes
-    }
-
     /// How many bytes what is stated above a time takes as a fragment, at most. It promises nothing. The only refusal is `Memory`. Cost:
-    /// O((1 + k) · log n), k versions with a row or an end above the time, n facts.
+    /// O((1 + r) · log n), r keys of which anything is stated above the time, and their versions, n facts.
     pub fn bytes_above(&self, alloc: Global, base: Time) -> Result<u64, Refusal> {
-        let born = self.births.above(alloc, base)?;
-        let dead = self.deaths.above(alloc, base)?;
-        let ends = (dead.len() as u64).saturating_mul(BESIDE_VERSION + END);
-        Ok(self.bytes_of_rows(&born).saturating_add(ends))
+        let mut bytes = 0u64;
+        for (version, known) in self.stated_above(alloc, base)? {
+            let row = if base < version.born {
+                row_bytes(known.row())
+            } else {
+                0
+            };
+            bytes = bytes
+                .saturating_add(BESIDE_VERSION + END)
+                .saturating_add(row);
+        }
+        Ok(bytes)
     }
 
     /// How many bytes the rows of a table with keys from `low` to `high` that are visible at a time take in an answer, at most. It promises

@@ -3,14 +3,14 @@
 ghost use Rattle.std.specs.Prelude.{◌≡◌};
 ghost use Rattle.hk_model.specs.History.Rows.{row_key_cmp};
 ghost use Rattle.hk_slots.specs.SlotMaps.{AreOwn, map_of};
-ghost use Rattle.hk_store.specs.Drops.{pruned_facts};
+ghost use Rattle.hk_store.specs.Drops.{EndedAmong, pruned_facts};
 ghost use Rattle.hk_store.specs.Facts.{AreStored};
-ghost use Rattle.hk_store.specs.Sweeps.{ArePruned, HasFewerSlots, IsSwept};
+ghost use Rattle.hk_store.specs.Sweeps.{ArePruned, HasEnded, HasFewerSlots, IsSwept};
 
 use crate::chains::Chains;
-use crate::row_key::RowKey;
 use crate::tally::Tally;
 use hk_facts::Chain;
+use hk_index::RowKey;
 use hk_slots::SlotMap;
 use hk_types::Time;
 
@@ -21,6 +21,15 @@ impl Chains {
         ensures { self.new ≡ pruned_facts self.old until }
     {
         sweep_all(&mut self.chains, tally, until);
+    }
+
+    /// Drops each version whose end is known and at most `until`, of these rows, which have all of those, and counts them no more. It
+    /// takes no memory. Cost: O(r · log n), r rows, n facts, and their versions.
+    pub(crate) fn sweep_rows(&mut self, tally: &mut Tally, rows: &[RowKey], until: Time)
+        requires { EndedAmong self.old until rows.now }
+        ensures { self.new ≡ pruned_facts self.old until }
+    {
+        sweep_listed(&mut self.chains, tally, rows, until);
     }
 
     /// A number that is at least that of the chains; more than that it does not promise.
@@ -38,6 +47,23 @@ fn sweep_all(chains: &mut SlotMap<RowKey, Chain>, tally: &mut Tally, until: Time
         if let Some(row) = chains.key_at(slot) {
             sweep_row(chains, tally, row, until);
         }
+    }
+}
+
+fn sweep_listed(
+    chains: &mut SlotMap<RowKey, Chain>,
+    tally: &mut Tally,
+    rows: &[RowKey],
+    until: Time,
+)
+    requires stored { AreStored (map_of row_key_cmp chains.old) }
+    requires listed { HasEnded (map_of row_key_cmp chains.old) until rows.now }
+    ensures stored { AreStored (map_of row_key_cmp chains.new) }
+    ensures swept { ArePruned (map_of row_key_cmp chains.old) (map_of row_key_cmp chains.new) until }
+{
+    let _own = chains.slot_bound();
+    for row in rows {
+        sweep_row(chains, tally, *row, until);
     }
 }
 

@@ -37,13 +37,9 @@ impl Tally {
 
     /// Counts what was removed no more.
     pub(crate) fn lose(&mut self, lost: &Lost) {
-        if lost.tag.is_some() {
-            self.rows = self.rows.saturating_sub(1);
-            self.bytes = self.bytes.saturating_sub(lost.bytes as u64);
-        }
-        if lost.died.is_some() {
-            self.ends = self.ends.saturating_sub(1);
-        }
+        self.rows = self.rows.saturating_sub(lost.rows);
+        self.bytes = self.bytes.saturating_sub(lost.bytes);
+        self.ends = self.ends.saturating_sub(lost.ends);
     }
 
     /// Counts a version no more, of which nothing is kept.

@@ -1,6 +1,6 @@
 //! The versions of a state's facts, one by one.
 
-ghost use Rattle.std.specs.Prelude.{◌≡◌, ◌==◌, ◌||◌, ◌++◌, ◌∷◌, [], IfOk, OnOk, map};
+ghost use Rattle.std.specs.Prelude.{◌≡◌, ◌==◌, ◌||◌, ◌∷◌, [], IfOk, OnOk, map};
 ghost use Rattle.std.specs.Option.{option_copied};
 ghost use Rattle.std.specs.FinSet as set;
 ghost use Rattle.hk_types.specs.Values.{same_row};
@@ -10,7 +10,7 @@ ghost use Rattle.hk_model.specs.Replica.Maps.{values_conflict};
 ghost use Rattle.hk_model.specs.Replica.Rules.{contents_conflict};
 ghost use Rattle.hk_store.specs.Facts.{known_at};
 ghost use Rattle.hk_store.specs.Reads.{with_facts};
-ghost use Rattle.hk_store.specs.Versions.{AreVersions, AreVersionsOf, borrowed, value_conflicts_at, versions_differ};
+ghost use Rattle.hk_store.specs.Versions.{AddsVersions, AreVersions, AreVersionsOf, borrowed, value_conflicts_at, versions_differ};
 
 use crate::chains::Chains;
 use crate::facts::Facts;
@@ -105,8 +105,7 @@ pub fn push_borrowed<'a>(
     version: VersionKey,
     known: &'a Version,
 ) -> Result<(), AllocError>
-    ensures { OnOk result (map borrowed found.new.items
-        ≡ map borrowed found.old.items ++ (version, known.now) ∷ []) }
+    ensures { OnOk result (AddsVersions found.old.items found.new.items ((version, known.now) ∷ [])) }
 {
     match found.push((version, known)) {
         Ok(()) => Ok(()),

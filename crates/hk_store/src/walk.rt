@@ -8,8 +8,8 @@ ghost use Rattle.hk_store.specs.Versions.{AreVersions, AreVersionsOf, NextOf, bo
 
 use crate::ahead::Ahead;
 use crate::chains::Chains;
-use crate::row_key::RowKey;
 use hk_facts::Chain;
+use hk_index::RowKey;
 use hk_log::Version;
 use hk_slots::Range;
 use hk_types::{Key, Table, Time, VersionKey};
@@ -93,7 +93,7 @@ impl Chains {
 }
 
 /// The version of a row's chain that was born first, or next after a time.
-fn next_of<'a>(
+pub(crate) fn next_of<'a>(
     row: &RowKey,
     chain: &'a Chain,
     after: Option<Time>,

@@ -15,5 +15,5 @@ invariant_of-self-2 c =
       as_many = ap length e.got ∙ as_many_together a.got given (c.requires.as_many ∙ ap (λ (x : Content). length x.streams) (sym c.self.view_is)) ∙ c.self.invariant.as_many;
       lawful = subst IsLawful (
           ap (λ x. content_after_change x c.args.change given) (sym c.self.view_is)
-          ∙ (λ i. content_of_parts a.config c.args.change.horizon (sym e.facts i) (sym e.got i))) c.requires.lawful;
+          ∙ (λ i. content_of_parts a.config c.args.change.horizon (sym (c.note_ends_above.ensures ∙ e.facts) i) (sym e.got i))) c.requires.lawful;
     }

@@ -1,22 +1,26 @@
-use Rattle.std.proofs.Common.{subst, List}
-use Rattle.hk_types.specs.declared.version_key.VersionKey.{VersionKey}
-use Rattle.hk_store.specs.Facts.{FactsValue}
-use Rattle.hk_index.specs.Timed.{AreTimed}
-use Rattle.hk_store.specs.Indexed.{BirthsLeft, died_at}
-use Rattle.hk_store.proofs.DroppedVersions.{deaths_dropped, dropped_ended}
-use Rattle.hk_store.proofs.LeftBirths.{pruned_births, pruned_listed}
+use Rattle.std.proofs.Common.{ap, ◌∙◌, List}
+use Rattle.hk_model.specs.History.Rows.{RowKey, row_key_of}
+use Rattle.hk_index.specs.Timed.{is_among}
+use Rattle.hk_store.proofs.SoughtVersions.{ended_rows}
+use Rattle.hk_store.proofs.StatedFacts.{fewer_later, fewer_stated, pruned_fewer, pruned_later, pruned_listed}
 use Rattle.hk_store.proofs.facts.Facts.drop_until.Goals as goal
+
+pub drop_ended-requires : goal.drop_ended-requires
+drop_ended-requires c q e =
+    let a = c.self.inside in
+    let rows = c.in_ok-rows.rows.items in
+    ap (λ (l : List RowKey). is_among l (row_key_of q)) c.deref.ensures.value
+    ∙ ended_rows a.chains a.stated c.ends_until.result rows c.self.invariant.stated c.in_ok-rows.ensures.ok c.args.until q (rw (← c.self.view_is) at (c.ends_until.ensures q)) e
 
 pub invariant_of-self : goal.invariant_of-self
 invariant_of-self c =
     let a = c.self.inside in
     let h = c.args.until in
-    let vs = c.in_ok-ended.ended.items in
-    let ended = rw (← c.self.view_is) at c.in_ok-ended.ensures.ok in
-    let left = subst (λ (ws : List VersionKey). BirthsLeft a.births ws c.forget_births.new.births) c.deref-2.ensures.value c.forget_births.ensures.births in
-    let dead = subst (λ (f : FactsValue). AreTimed (died_at f) c.drop_until.new.self) (dropped_ended a.chains vs h ended) (rw c.drop_until.ensures (deaths_dropped a.chains a.deaths c.self.invariant.dead h vs ended)) in
-    record {
-      tagged = rw (c.forget_births.ensures.tags, c.drop_ended.ensures) (pruned_listed a.chains h a.tags c.self.invariant.tagged);
-      born = rw c.drop_ended.ensures (pruned_births a.chains h a.births c.forget_births.new.births c.self.invariant.born vs ended left);
-      dead = rw c.drop_ended.ensures dead;
-    }
+    rw c.drop_ended.ensures (record {
+      tagged = pruned_listed a.chains h a.tags c.self.invariant.tagged;
+      stated = fewer_stated a.chains _ a.stated (pruned_fewer a.chains h) c.self.invariant.stated;
+      later = fewer_later a.chains _ a.first_end (pruned_fewer a.chains h) c.self.invariant.later;
+    })
+
+pub note_ends_above-requires : goal.note_ends_above-requires
+note_ends_above-requires c v died e = pruned_later c.self.inside.chains c.args.until v died (rw c.drop_ended.ensures at e)

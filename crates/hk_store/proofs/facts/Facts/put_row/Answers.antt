@@ -4,7 +4,7 @@ use Rattle.hk_facts.specs.declared.fact.Fact.TheVariants.{Row}
 use Rattle.hk_store.specs.Undos.{rolled_back}
 use Rattle.hk_store.proofs.Indexed.{more_listed, row_listed, put_is}
 use Rattle.hk_store.proofs.RolledBack.{taken_back, kept_unless_noted, noted_or_back}
-use Rattle.hk_store.proofs.TimedFacts.{births_added}
+use Rattle.hk_store.proofs.StatedFacts.{row_stated}
 use Rattle.hk_store.proofs.facts.Facts.put_row.Goals as goal
 
 pub invariant_of-self-in-Err : goal.invariant_of-self-in-Err
@@ -12,11 +12,11 @@ invariant_of-self-in-Err c =
     let a = c.self.inside in
     let new = OnTrue_at c.if-not-branch.false c.in_ok-put.ensures.new in
     let is = put_is a.chains c.put.new.self c.args.version.now (Row c.args.row) c.in_ok-put.ensures.ok in
-    let back = taken_back a.chains c.put.new.self c.args.version.now (Row c.args.row) new is c.forget.new.self c.forget.ensures.left in
+    let back = taken_back a.chains c.put.new.self c.args.version.now (Row c.args.row) new is c.forget.new.self c.forget.ensures in
     record {
-      tagged = rw back (more_listed a.chains a.tags c.add_birth.new.tags c.add_birth.ensures.kept c.self.invariant.tagged);
-      born = rw (back, c.in-Err.ensures.untimed) c.self.invariant.born;
-      dead = rw back c.self.invariant.dead;
+      tagged = rw back (more_listed a.chains a.tags c.list_row.new.tags c.list_row.ensures.kept c.self.invariant.tagged);
+      stated = rw (back, c.in-Err.ensures.unstated) c.self.invariant.stated;
+      later = rw back c.self.invariant.later;
     }
 
 pub returns-in-Err-clause-kept : goal.returns-in-Err-clause-kept
@@ -24,7 +24,7 @@ returns-in-Err-clause-kept c =
     let a = c.self.inside in
     let new = OnTrue_at c.if-not-branch.false c.in_ok-put.ensures.new in
     let is = put_is a.chains c.put.new.self c.args.version.now (Row c.args.row) c.in_ok-put.ensures.ok in
-    rw (← c.self.view_is) (taken_back a.chains c.put.new.self c.args.version.now (Row c.args.row) new is c.forget.new.self c.forget.ensures.left)
+    rw (← c.self.view_is) (taken_back a.chains c.put.new.self c.args.version.now (Row c.args.row) new is c.forget.new.self c.forget.ensures)
 
 pub invariant_of-self-2 : goal.invariant_of-self-2
 invariant_of-self-2 c =
@@ -33,9 +33,9 @@ invariant_of-self-2 c =
     let new = OnTrue_at c.if-not-branch.false c.in_ok-put.ensures.new in
     let is = put_is a.chains c.put.new.self v (Row c.args.row) c.in_ok-put.ensures.ok in
     record {
-      tagged = rw is (row_listed a.chains v c.add_birth.new.tags (more_listed a.chains a.tags c.add_birth.new.tags c.add_birth.ensures.kept c.self.invariant.tagged) c.args.row new (rw c.tag-tag.ensures at c.in_default.ensures.listed));
-      born = rw (is, c.in_default.ensures.timed) (births_added a.chains v a.births c.self.invariant.born c.args.row new);
-      dead = rw is c.self.invariant.dead;
+      tagged = rw is (row_listed a.chains v c.list_row.new.tags (more_listed a.chains a.tags c.list_row.new.tags c.list_row.ensures.kept c.self.invariant.tagged) c.args.row new (rw c.tag-tag.ensures at c.in_default.ensures.listed));
+      stated = rw (is, c.in_default.ensures.stated) (row_stated a.chains a.stated c.self.invariant.stated v c.args.row new);
+      later = rw is c.self.invariant.later;
     }
 
 pub returns-in-Err-clause-back : goal.returns-in-Err-clause-back

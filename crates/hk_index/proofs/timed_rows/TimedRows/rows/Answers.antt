@@ -1,0 +1,22 @@
+use Rattle.std.proofs.Common.{ap, ◌∙◌, subst, List, ◌++◌, take, drop}
+use Rattle.hk_model.specs.History.Rows.{RowKey}
+use Rattle.hk_index.specs.declared.timed_row.TimedRow.{TimedRow}
+use Rattle.hk_index.specs.Timed.{ListsRows, is_in}
+use Rattle.hk_index.proofs.TimedLists.{both_parts, rows_in}
+use Rattle.hk_index.proofs.timed_rows.TimedRows.rows.Goals as goal
+
+pub returns-clause-ok : goal.returns-clause-ok
+returns-clause-ok c =
+    let ts = c.self.inside.rows.items in
+    let ordered = c.self.inside.ordered in
+    let split = c.split_at.ensures in
+    let whole = c.deref.ensures.value in
+    subst (λ s. ListsRows s c.args.span.now c.rising.result.items) c.self.view_is (record {
+      rising = c.rising.ensures.rising;
+      all = λ time row within there.
+          c.rising.ensures.same row
+          ∙ both_parts ts c.within.result.now c.split_at.result.1.now c.args.span.now ordered c.push_rows-2.new.found.items c.push_rows.new.found.items
+          (λ t is e. c.within.ensures t is (ap (λ (l : List TimedRow). is_in l t) (split.front ∙ ap (take ordered) whole) ∙ e))
+          (split.back ∙ ap (drop ordered) whole)
+          (c.in_ok-push_rows.ensures ∙ ap (λ (l : List RowKey). l ++ rows_in c.args.span.now c.within.result.now) c.new-found.ensures.items) c.in_ok-push_rows-2.ensures time row within there;
+    })

@@ -1,0 +1,27 @@
+//! Spans of time.
+
+ghost use Rattle.std.specs.Prelude.{◌≡◌};
+ghost use Rattle.hk_index.specs.Timed.{is_in_span};
+
+/// The times from one on, up to another where there is one.
+#[derive(Clone, Copy)]
+pub struct Span {
+    /// The first of them.
+    pub from: u64,
+    /// The last of them.
+    pub until: Option<u64>,
+}
+
+impl Span {
+    /// Whether a time is one of them.
+    #[inline(always)]
+    pub fn has(&self, time: u64) -> bool
+        ensures { result ≡ is_in_span self.now time }
+    {
+        self.from <= time
+            && match self.until {
+                Some(until) => time <= until,
+                None => true,
+            }
+    }
+}
