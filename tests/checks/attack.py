@@ -19,6 +19,7 @@ sys.path.append(str(pathlib.Path(__file__).resolve().parents[1] / "lib"))
 import messages as say
 from checks import ended, guarded, is_built, report
 from client import free_port
+from staying import most_memory
 
 ROOT = pathlib.Path(__file__).resolve().parents[2]
 PROGRAM = str(ROOT / "bin" / "hkrep")
@@ -50,19 +51,41 @@ def run_seconds(args, data, statuses=(0, 1)):
         return processor_seconds(child, statuses)
 
 
-def serve_seconds(data):
-    """The processor seconds of a node that one link sends these requests."""
+def serving(link_does):
+    """A node whose one link does this with its link and its process, as it ends."""
     port = free_port()
     words = [PROGRAM, "serve", "--log", "7", "--streams", "1", "--port", str(port), "--links", "1"]
     child = subprocess.Popen(words, stdout=subprocess.PIPE, stderr=subprocess.DEVNULL)
     child.stdout.readline()
     with say.Link(port, LIMIT) as link:
+        link_does(link, child)
+    child.stdout.close()
+    return child
+
+
+def serve_seconds(data):
+    """The processor seconds of a node that one link sends these requests."""
+    def send(link, _):
         sender = threading.Thread(target=lambda: (link.send(data), link.half_close()))
         sender.start()
         link.read_all()
         sender.join()
-    child.stdout.close()
-    return processor_seconds(child)
+
+    return processor_seconds(serving(send))
+
+
+def serve_bytes(requests):
+    """The most memory that a node has that one link sends these requests, one after the other."""
+    most = []
+
+    def send(link, child):
+        for request in requests:
+            link.send(request)
+            link.reply()
+        most.append(most_memory(child.pid))
+
+    processor_seconds(serving(send))
+    return most[0]
 
 
 def best(measure, *what):
@@ -342,6 +365,19 @@ def rising_joins():
     compare("joins of nothing that each raise the horizon", serve_seconds, dear, fronts, 1_000)
 
 
+def refused_joins():
+    """Joins that put rows with early times and are refused at their last one: what was listed for the rows goes with them."""
+    def sent(count):
+        facts = [(1, key, key, (9, b""), key + 1) for key in range(1, 1_001)]
+        held, other = ([(1, 2_000, 2_000, (9, body), None)] for body in (b"a", b"b"))
+        join = say.join_this(streams=[(0, 0, [], [])], facts=facts + other)
+        return [say.join_this(streams=[(0, 0, [], [])], facts=held)] + [join] * count
+
+    few, many = (serve_bytes(sent(count)) for count in (50, 1_050))
+    problems = [f"{many - few} bytes more"] if many - few > 4_000_000 else []
+    report("joins that are refused, again and again", problems, "no more memory for a thousand more of 1,000 rows each")
+
+
 def lone_ends():
     def dear(count):
         ends = [(1, 5, n, None, n + 1) for n in range(1, count)]
@@ -369,7 +405,7 @@ def open_counts():
 
 
 GATE = (tags, keys, one_tag, orders_of_keys, orders_of_times, orders_of_ends, orders_of_births, marks, covered_marks, numbers_, numbers_with_gaps,
-        streams, chains, contradictions, all_contradict, endless_line, empty_lines, endless_frame, prunes, changing_tags, deltas, rising_joins,
+        streams, chains, contradictions, all_contradict, endless_line, empty_lines, endless_frame, prunes, changing_tags, deltas, rising_joins, refused_joins,
         lone_ends, small_joins)
 OPEN = (open_counts,)
 

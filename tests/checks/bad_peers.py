@@ -27,7 +27,7 @@ sys.path.append(str(pathlib.Path(__file__).resolve().parents[1] / "lib"))
 import messages as say
 from checks import differ, ended, free_port, guarded, is_built, report
 from messages import E1, E2, E3
-from staying import LIMIT, PROGRAM, OwnNode, Staying
+from staying import LIMIT, PROGRAM, OwnNode, Staying, most_memory
 
 MEGABYTE = 1 << 20
 LATER = ("--messages", "2")
@@ -97,15 +97,9 @@ def kind_of_bound():
 
 
 def from_now_on(node):
-    """Begins to look for the most memory that a node takes; gives what it has."""
+    """Begins to look for the most memory that a node takes (`most_memory`); gives what it has."""
     pathlib.Path(f"/proc/{node.child.pid}/clear_refs").write_text("5")
     return node.memory()
-
-
-def most_memory(node):
-    """The most that it had in memory since then."""
-    text = pathlib.Path(f"/proc/{node.child.pid}/status").read_text()
-    return int(next(line for line in text.splitlines() if line.startswith("VmHWM")).split()[1]) * 1024
 
 
 def within(what, got, most):
@@ -191,7 +185,7 @@ def unread_snapshots(count):
                  ("another reader", other.ask(say.ask(1, say.get(1, 1_000))), ("row", (9, b"x" * 4_000))), ("a feeder", feeder.ask(small_change(entries + 1)), ("fed", entries + 2, 2)),
                  ("those that were refused", {reader.ask(say.front()) for reader in refused}, {("front", 0, entries + 1)})]
         least_refused = count - LINK_BYTES // 2 // (reply - IN_SOCKETS) - 2 * WORKERS
-        most = most_memory(node)
+        most = most_memory(node.child.pid)
         whole = sum(is_read_on(reader, reply - 2) for reader, first in told.items() if first == "begins")
         pairs += [("enough were refused", len(refused) >= least_refused, True), ("some came whole", whole > 0, True), ("it runs on", node.child.poll(), None)]
     report(f"{count} readers that ask for all and read nothing", differ(pairs) + within("memory", most, rows + MARGIN),
@@ -220,7 +214,7 @@ def lengths_of_readers():
             pairs.append(("a length alone", reader.ask(say.u32(lengths[at % 3])), ("refused", 2, 0, 0)))
             send_some(reader, bytes(MEGABYTE))
         pairs += [("how they ended", {node.line() for _ in readers}, {"ended 2"}), ("another link", link.ask(GET), ROW)]
-        grown = most_memory(node) - before
+        grown = most_memory(node.child.pid) - before
     report("lengths of 99 readers, with a megabyte behind each", differ(pairs) + within("memory", grown, 4 * MEGABYTE), f"{megabytes(grown)}, at most {megabytes(4 * MEGABYTE)}")
 
 
@@ -235,7 +229,7 @@ def half_frames():
         send_each((stack.enter_context(node.link()), say.u32(LONGEST) + b"\1\x10" + bytes(each)) for _ in range(count))
         pairs += [("how they ended", {node.line() for _ in range(count - kept // each)}, {"ended 90"}), ("another link", link.ask(say.front()), ("front", 0, 1)),
                   ("a reader", reader.ask(GET), ROW), ("a feeder", feeder.ask(small_change(2)), ("fed", 3, 2)), ("it runs on", node.child.poll(), None)]
-        grown, limit = most_memory(node) - before, 2 * kept + MARGIN
+        grown, limit = most_memory(node.child.pid) - before, 2 * kept + MARGIN
     report(f"{count} halves of frames of {megabytes(LONGEST)}", differ(pairs) + within("memory", grown, limit), f"{megabytes(grown)}, at most {megabytes(limit)}")
 
 
@@ -252,7 +246,7 @@ def trickles():
             pairs += [("another link", link.ask(GET), ROW), ("a feeder", feeder.ask(small_change(second + 2)), ("fed", second + 3, 2))]
             took.append(time.monotonic() - start)
             time.sleep(1)
-        grown = most_memory(node) - before
+        grown = most_memory(node.child.pid) - before
     report("a hundred frames that trickle", differ(pairs) + within("memory", grown, MOST_TRICKLED) + within("seconds of a question and a change", max(took), 1),
            f"{grown // 1024} kB, at most {megabytes(MOST_TRICKLED)}; a question and a change beside them {max(took) * 1e3:.1f} ms")
 

@@ -33,6 +33,12 @@ def is_silent(link, seconds=0.3):
         link.socket.settimeout(LIMIT)
 
 
+def most_memory(process):
+    """The most bytes of a process that stood in memory at once, since it began or since that was last forgotten (clear_refs)."""
+    text = pathlib.Path(f"/proc/{process}/status").read_text()
+    return int(next(line for line in text.splitlines() if line.startswith("VmHWM")).split()[1]) * 1024
+
+
 class Running:
     """A node, which is ended when the block is left, started behind the words before; limits are of `resource`."""
 
