@@ -31,6 +31,8 @@ impl Absorber {
 }
 
 impl Sink for Absorber {
+    type Item = Item;
+
     ghost took = { λ start items now. TakesAll start.state items now.state };
 
     fn take(&mut self, item: Item) -> Result<(), Stop> {

@@ -1,28 +1,92 @@
 //! Reading item frames.
 
 ghost use Rattle.std.specs.Prelude.{◌≡◌, List, [], ◌∷◌, is_ok, slice_index_or, OnOk, OnErr};
-ghost use Rattle.hk_log.specs.declared.item.Item.{Item};
 ghost use Rattle.hk_cli_input.specs.Taking.{TookMore, TookFront, TookNone, Gave, GaveAll};
 ghost use Rattle.hk_cli_input.specs.Items.{TookItems, TookFirstItems, GoesOn, BreaksOff};
 
 use crate::pieces::{MOST_READS, new_piece, read_next};
 use crate::stop::Stop;
 use hk_cli_reasons::{Origin, Place, RequestContext};
-use hk_codec::{Feeder, pieces_join};
+use hk_codec::{ItemFormat, ItemOutline, OutlineFormat, pieces_join};
+use hk_frames::{Format, FrameFeeder};
 use hk_log::Item;
-use hk_types::Refusal;
+use hk_types::{Refusal, StreamNo};
 use std::alloc::Global;
 use std::io::Read;
 
 /// How many bytes of a piece are decoded at a time, so that the next items take the memory that the last ones gave back.
 const PART_BYTES: usize = 1_024;
 
+/// What the items of an input are read as: whole, or as their outlines.
+pub trait FromFrame: Drop {
+    ghost use Rattle.std.specs.Prelude.{ℕ, List, [], Result, Ok};
+    ghost use Rattle.hk_types.specs.declared.faults.FormFault.{FormFault};
+    ghost use Rattle.hk_frames.specs.Framing.{PiecesJoin};
+    ghost use Rattle.hk_cli_input.specs.Items.{AddsRead};
+
+    /// How it stands in frames.
+    type Format: Format<Value = Self>;
+
+    /// What a text is read as so far.
+    ghost Reads: { List ℕ → List Self → Result (List ℕ) FormFault → Type 0 };
+
+    /// Its log and its stream.
+    fn place(&self) -> (u64, StreamNo);
+
+    /// Does nothing: what is read is what frames add, and a text in pieces is read as one.
+    fn laws()
+        ensures none { Reads [] [] (Ok []) }
+        ensures adds { AddsRead Self.Format.Adds Reads }
+        ensures join { PiecesJoin Reads };
+}
+
+impl FromFrame for Item {
+    ghost use Rattle.hk_codec.specs.Frames.{Reads};
+
+    type Format = ItemFormat;
+
+    ghost Reads = { Reads };
+
+    fn place(&self) -> (u64, StreamNo) {
+        match self {
+            Item::Commit(entry) => (entry.log(), entry.stream()),
+            Item::Closed(mark) => (mark.log(), mark.stream()),
+        }
+    }
+
+    fn laws() {
+        pieces_join();
+    }
+}
+
+impl FromFrame for ItemOutline {
+    ghost use Rattle.hk_codec.specs.Outlines.{ReadsOutlines};
+
+    type Format = OutlineFormat;
+
+    ghost Reads = { ReadsOutlines };
+
+    fn place(&self) -> (u64, StreamNo) {
+        match self {
+            ItemOutline::Commit(entry) => (entry.log, entry.stream),
+            ItemOutline::Closed(mark) => (mark.log(), mark.stream()),
+        }
+    }
+
+    fn laws() {
+        pieces_join();
+    }
+}
+
 /// What receives the items of an input, one after the other.
 pub trait Sink {
-    ghost took: { Self → List Item → Self → Type 0 };
+    /// What each item is read as.
+    type Item: FromFrame;
+
+    ghost took: { Self → List Self.Item → Self → Type 0 };
 
     /// Receives the next item, or returns what stops the command; then it did not take the item.
-    fn take(&mut self, item: Item) -> Result<(), Stop>
+    fn take(&mut self, item: Self::Item) -> Result<(), Stop>
         ensures ok { OnOk result (TookMore took self.old self.new (item ∷ [])) }
         ensures err { OnErr result (TookNone took self.old self.new) };
 }
@@ -45,15 +109,6 @@ fn asked_at_head(kind: u8) -> RequestContext {
     }
 }
 
-/// What was asked where an item is to be applied.
-fn asked_of(item: &Item) -> RequestContext {
-    let (log, stream) = match item {
-        Item::Commit(entry) => (entry.log(), entry.stream()),
-        Item::Closed(mark) => (mark.log(), mark.stream()),
-    };
-    RequestContext::Item { log, stream }
-}
-
 /// The origin of an item that comes after so many frames.
 fn origin_of(frames: u64, asked: RequestContext) -> Origin {
     let place = Place::Frame(frames.saturating_add(1));
@@ -61,14 +116,14 @@ fn origin_of(frames: u64, asked: RequestContext) -> Origin {
 }
 
 /// Passes items to the sink, and counts those that it accepted.
-fn take_all<S: Sink>(items: Vec<Item>, sink: &mut S, frames: &mut u64) -> Result<(), Stop>
+fn take_all<S: Sink>(items: Vec<S::Item>, sink: &mut S, frames: &mut u64) -> Result<(), Stop>
     ensures ok { OnOk result (TookMore S.took sink.old sink.new items.items) }
     ensures err { OnErr result (TookFront S.took sink.old sink.new items.items) }
 {
     for item in items {
-        let asked = asked_of(&item);
+        let (log, stream) = item.place();
         if let Err(stop) = sink.take(item) {
-            return Err(stop.at(origin_of(*frames, asked)));
+            return Err(stop.at(origin_of(*frames, RequestContext::Item { log, stream })));
         }
         *frames = frames.saturating_add(1);
     }
@@ -98,19 +153,19 @@ struct Position {
 /// Hands on the items that a piece completes.
 fn take_piece<S: Sink>(
     alloc: Global,
-    feeder: &mut Feeder,
+    feeder: &mut FrameFeeder<<S::Item as FromFrame>::Format>,
     at: &mut Position,
     sink: &mut S,
     piece: &[u8],
 ) -> Result<(), Stop>
-    ensures ok { OnOk result (GoesOn S.took sink.old sink.new feeder.old feeder.new piece.now) }
-    ensures err { OnErr result (BreaksOff S.took sink.old sink.new feeder.old piece.now) }
+    ensures ok { OnOk result (GoesOn S.Item.Reads S.took sink.old sink.new feeder.old feeder.new piece.now) }
+    ensures err { OnErr result (BreaksOff S.Item.Reads S.took sink.old sink.new feeder.old piece.now) }
 {
     if at.kind == 0 {
         at.kind = kind_at_head(piece);
     }
     for part in piece.chunks(PART_BYTES) {
-        pieces_join();
+        S::Item::laws();
         let mut items = Vec::new(alloc);
         let fed = feeder.feed(part, &mut items);
         take_all(items, sink, &mut at.count)?;
@@ -124,14 +179,15 @@ fn take_piece<S: Sink>(
 pub fn hand_items<I: Read, S: Sink>(alloc: Global, input: &mut I, sink: &mut S) -> Result<(), Stop>
     // The sink took the items that all bytes encode, in their order.
     ensures all { OnOk result (GaveAll I.remaining input.old input.new
-        (TookItems S.took sink.old sink.new)) }
+        (TookItems S.Item.Reads S.took sink.old sink.new)) }
     // It took the first of them.
     ensures part { OnErr result (Gave I.remaining input.old input.new
-        (TookFirstItems S.took sink.old sink.new)) }
+        (TookFirstItems S.Item.Reads S.took sink.old sink.new)) }
 {
+    S::Item::laws();
     let mut room = new_piece(alloc)?;
     let piece = room.as_mut_slice();
-    let mut feeder = Feeder::new(alloc);
+    let mut feeder = FrameFeeder::new(alloc);
     let mut at = Position { count: 0, kind: 0 };
     for _ in 0..MOST_READS {
         let count = read_next(input, piece)?;

@@ -6,7 +6,7 @@ mod lines;
 mod pieces;
 mod stop;
 
-pub use frames::{Sink, hand_items, kind_at_head};
+pub use frames::{FromFrame, Sink, hand_items, kind_at_head};
 pub use lines::{Lines, read_lines};
 pub use pieces::{MOST_READS, PIECE_BYTES, Pieces, read_pieces};
 pub use stop::{LinkFault, Peer, Stop};

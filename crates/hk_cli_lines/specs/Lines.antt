@@ -7,9 +7,12 @@ use Rattle.hk_types.specs.Values.{RowValue}
 use Rattle.hk_types.specs.declared.faults.Refusal.{Refusal}
 use Rattle.hk_types.specs.declared.faults.Refusal.TheVariants.{Gap, AheadOfMark, TooOld, NotYet, WriteConflict, NoRow, Retired, Held, Unpublished, LinkFull}
 use Rattle.hk_types.specs.FaultNumbers.{refusal_number}
-use Rattle.hk_log.specs.Items.{EntryValue, MarkValue}
+use Rattle.hk_log.specs.Items.{MarkValue}
 use Rattle.hk_log.specs.declared.item.Item.{Item}
-use Rattle.hk_log.specs.declared.item.Item.TheVariants.{Commit, Closed}
+use Rattle.hk_codec.specs.declared.outline.EntryOutline.{EntryOutline}
+use Rattle.hk_codec.specs.declared.outline.ItemOutline.{ItemOutline}
+use Rattle.hk_codec.specs.declared.outline.ItemOutline.TheVariants.{Commit, Closed}
+use Rattle.hk_codec.specs.Outlines.{item_outline}
 use Rattle.hk_model.specs.declared.took.Took.TheVariants.{Taken, Repeated}
 use Rattle.hk_model.specs.World.Worlds.{ToldValue}
 use Rattle.hk_model.specs.World.Worlds.ToldValue.{Committed, Marked, Absorbed, Done, Answered, Fronted, Refused}
@@ -63,15 +66,15 @@ abbrev pub refusal_line : Refusal → List ℕ
 refusal_line why = codes "refused " ++ decimal (refusal_number why) ++ fields_of why ++ line_end
 
 -- where and when an entry stands
-abbrev pub entry_place : EntryValue → List ℕ
+abbrev pub entry_place : EntryOutline → List ℕ
 entry_place e = codes "commit log " ++ decimal e.log ++ codes " stream " ++ decimal e.stream ++ codes " number " ++ decimal e.number ++ codes " time " ++ decimal e.time
 
 -- how many versions it ended, and how many rows it put in
-abbrev pub entry_counts : EntryValue → List ℕ
-entry_counts e = codes " ends " ++ decimal (length e.ends) ++ codes " rows " ++ decimal (length e.rows) ++ line_end
+abbrev pub entry_counts : EntryOutline → List ℕ
+entry_counts e = codes " ends " ++ decimal e.ends ++ codes " rows " ++ decimal e.rows ++ line_end
 
 -- what is printed of an entry
-abbrev pub entry_line : EntryValue → List ℕ
+abbrev pub entry_line : EntryOutline → List ℕ
 entry_line e = entry_place e ++ entry_counts e
 
 -- what is printed of a mark
@@ -79,10 +82,13 @@ abbrev pub mark_line : MarkValue → List ℕ
 mark_line m =
     codes "mark log " ++ decimal m.log ++ codes " stream " ++ decimal m.stream ++ codes " n " ++ decimal m.count ++ codes " m " ++ decimal m.upto ++ line_end
 
--- what is printed of an item
+-- what is printed of an item, by its outline alone
+abbrev pub outline_line : ItemOutline → List ℕ
+outline_line (Commit e) = entry_line e
+outline_line (Closed m) = mark_line m
+
 abbrev pub item_line : Item → List ℕ
-item_line (Commit e) = entry_line e
-item_line (Closed m) = mark_line m
+item_line item = outline_line (item_outline item)
 
 -- what is printed of a mark when it is emitted
 abbrev pub emitted_line : MarkValue → List ℕ

@@ -8,7 +8,8 @@ ghost use Rattle.hk_model.specs.World.Events.{told_seen};
 ghost use Rattle.hk_cli_lines.specs.Lines as spec;
 ghost use Rattle.hk_cli_lines.specs.Lines.{front_line};
 
-use hk_log::{Entry, Item, Mark};
+use hk_codec::{EntryOutline, ItemOutline, outline_of};
+use hk_log::{Item, Mark};
 use hk_model::{Answer, Front, Told, Took};
 use hk_types::{Key, Refusal, Row};
 use std::alloc::{AllocError, Global};
@@ -130,29 +131,29 @@ impl Printed for Refusal {
     }
 }
 
-fn put_entry_place(entry: &Entry, out: &mut String) -> Result<(), AllocError>
+fn put_entry_place(entry: &EntryOutline, out: &mut String) -> Result<(), AllocError>
     ensures { OnOk result (string_bytes out.new ≡ string_bytes out.old ++ spec.entry_place entry.now) }
 {
-    let log = entry.log();
-    let stream = entry.stream();
-    let number = entry.number();
-    let time = entry.time();
+    let log = entry.log;
+    let stream = entry.stream;
+    let number = entry.number;
+    let time = entry.time;
     write!(
         out,
         "commit log {log} stream {stream} number {number} time {time}"
     )
 }
 
-fn put_entry_counts(entry: &Entry, out: &mut String) -> Result<(), AllocError>
+fn put_entry_counts(entry: &EntryOutline, out: &mut String) -> Result<(), AllocError>
     ensures { OnOk result (string_bytes out.new ≡ string_bytes out.old ++ spec.entry_counts entry.now) }
 {
-    let ends = entry.ends().len();
-    let rows = entry.rows().len();
+    let ends = entry.ends;
+    let rows = entry.rows;
     writeln!(out, " ends {ends} rows {rows}")
 }
 
 #[tactic(auto, using(std::proofs::Common::append_assoc))]
-fn put_entry(entry: &Entry, out: &mut String) -> Result<(), AllocError>
+fn put_entry(entry: &EntryOutline, out: &mut String) -> Result<(), AllocError>
     ensures { OnOk result (string_bytes out.new ≡ string_bytes out.old ++ spec.entry_line entry.now) }
 {
     put_entry_place(entry, out)?;
@@ -169,14 +170,22 @@ fn put_mark(mark: &Mark, out: &mut String) -> Result<(), AllocError>
     writeln!(out, "mark log {log} stream {stream} n {n} m {m}")
 }
 
-impl Printed for Item {
-    ghost text = { spec.item_line };
+impl Printed for ItemOutline {
+    ghost text = { spec.outline_line };
 
     fn put_lines(&self, _alloc: Global, out: &mut String) -> Result<(), AllocError> {
         match self {
-            Item::Commit(entry) => put_entry(entry, out),
-            Item::Closed(mark) => put_mark(mark, out),
+            ItemOutline::Commit(entry) => put_entry(entry, out),
+            ItemOutline::Closed(mark) => put_mark(mark, out),
         }
+    }
+}
+
+impl Printed for Item {
+    ghost text = { spec.item_line };
+
+    fn put_lines(&self, alloc: Global, out: &mut String) -> Result<(), AllocError> {
+        outline_of(self).put_lines(alloc, out)
     }
 }
 

@@ -125,6 +125,8 @@ impl<'a, 'l> Batches<'a, 'l> {
 }
 
 impl Sink for Batches<'_, '_> {
+    type Item = Item;
+
     ghost took = { λ _ _ _. Unit {0} };
 
     fn take(&mut self, item: Item) -> Result<(), Stop> {

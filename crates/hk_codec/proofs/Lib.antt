@@ -1,9 +1,12 @@
 pub mod ListsRead
 pub mod LongestRuns
+pub mod Steps
+pub mod KeptLists
 pub mod ListLoops
 pub mod ReadFields
 pub mod ReadItems
 pub mod Lengths
 pub mod ReadAgain
 pub mod ItemFrames
+pub mod Outlined
 pub mod RewrittenFrames

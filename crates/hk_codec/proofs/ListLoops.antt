@@ -1,17 +1,13 @@
 -- What loops over the lists of an entry know.
-use Rattle.std.proofs.Common.{◌≡◌, ◌≢◌, ℕ, zero, suc, ◌-◌, ◌+◌, ◌≤◌, ◌<◌, List, [], ◌∷◌, ◌++◌, All, length, take, drop, get_or, Option, Some, None, Result, Ok, Err, refl, sym, ap, subst, ◌∙◌, append_assoc, append-nil, arith}
+use Rattle.std.proofs.Common.{◌≡◌, ◌≢◌, ℕ, zero, suc, ◌-◌, ◌≤◌, ◌<◌, List, [], ◌∷◌, ◌++◌, All, length, take, drop, get_or, Option, Some, None, refl, sym, ap, subst, ◌∙◌, append_assoc, append-nil, arith}
 use Rattle.std.specs.List.{flat_map, slice_get}
 use Rattle.std.proofs.lemmas.List.{take-append-drop, length-take, length-drop}
 use Rattle.std.proofs.lemmas.List.Concat.{flat_map-cons}
 use Rattle.std.proofs.lemmas.List.Elements.{recursion_from_All}
 use Rattle.std.proofs.Math.Seq.{drop-cons}
-use Rattle.hk_types.specs.declared.faults.FormFault.{FormFault}
-use Rattle.hk_frames.specs.declared.cursor.ReadError.{ReadError}
-use Rattle.hk_frames.specs.declared.cursor.ReadError.TheVariants.{Memory, Fault}
-use Rattle.hk_frames.specs.Fields.{Fails}
 use Rattle.hk_frames.proofs.Prefix.{kept_both}
-use Rattle.hk_codec.specs.Lists.{groups_of, group_text, last_place, group_at, groups_at, StartsOther, IsFirstGroup}
-use Rattle.hk_codec.proofs.LongestRuns.{OneOf, run_then}
+use Rattle.hk_codec.specs.Lists.{groups_of, group_text, last_place, StartsOther, IsFirstGroup}
+use Rattle.hk_codec.proofs.LongestRuns.{run_then}
 
 -- ---- the last place
 
@@ -114,28 +110,3 @@ module _ {X : Type 0} (place : X → ℕ × ℕ) (text : X → List ℕ) (old ou
       done : (l : List X) → length l ≡ 0 → out ++ flat_map (group_text text) (groups_of place l) ≡ all → out ≡ all
       done [] e h = sym (append-nil out) ∙ h
       done (x ∷ l) e h = absurd (omega (arith, e))
-
--- ---- reading groups
-
-module _ {X : Type 0} (place : X → ℕ × ℕ) (one : OneOf X) where
-  pub groups_go_on : (count i : ℕ) (before : List X) (bytes : List ℕ) (more : List X) (after : List ℕ) (total : Result (List X × List ℕ) FormFault) → i < count → group_at place one before bytes ≡ Ok (more, after) → groups_at place one (count - i) before bytes ≡ total → groups_at place one (count - (i + 1)) more after ≡ total
-  unfolding groups_at
-  groups_go_on count i before bytes more after total lt h so_far =
-      let k : count - i ≡ suc (count - (i + 1)) = omega arith in
-      let step : groups_at place one (count - i) before bytes ≡ groups_at place one (count - (i + 1)) more after = rw (k, h) refl in
-      sym step ∙ so_far
-
-  pub groups_end : (e : ReadError) (count i : ℕ) (before : List X) (bytes : List ℕ) (total : Result (List X × List ℕ) FormFault) → i < count → Fails e (group_at place one before bytes) → groups_at place one (count - i) before bytes ≡ total → Fails e total
-  unfolding groups_at
-  groups_end Memory count i before bytes total lt h so_far = tt
-  groups_end (Fault f) count i before bytes total lt h so_far =
-      let k : count - i ≡ suc (count - (i + 1)) = omega arith in
-      let step : groups_at place one (count - i) before bytes ≡ Err f = rw (k, h) refl in
-      sym so_far ∙ step
-
-  pub groups_done : (count i : ℕ) (before : List X) (bytes : List ℕ) (total : Result (List X × List ℕ) FormFault) → count ≤ i → groups_at place one (count - i) before bytes ≡ total → total ≡ Ok (before, bytes)
-  unfolding groups_at
-  groups_done count i before bytes total le so_far =
-      let k : count - i ≡ 0 = omega arith in
-      let step : groups_at place one (count - i) before bytes ≡ Ok (before, bytes) = rw k refl in
-      sym so_far ∙ step

@@ -3,11 +3,9 @@
 use Rattle.std.specs.Prelude.{◌≡◌, ◌≢◌, ◌≤◌, ℕ, zero, suc, ◌+◌, true, false, ◌||◌, ◌==◌, nat_lt, if◌then◌else◌, Bool, List, [], ◌∷◌, ◌++◌, length, take, drop, Option, Some, None, Result, Ok}
 use Rattle.std.specs.Int.{w16}
 use Rattle.std.specs.List.{flat_map}
-use Rattle.std.specs.Global.{Vec}
 use Rattle.hk_types.specs.declared.faults.FormFault.{FormFault}
 use Rattle.hk_types.specs.declared.faults.FormFault.TheVariants.{BadOrder, BadCount}
-use Rattle.hk_frames.specs.Fields.{◌>>=◌, check, number, number_at, list_at, GivesOrRunsOut}
-use Rattle.hk_frames.specs.declared.cursor.ReadError.{ReadError}
+use Rattle.hk_frames.specs.Fields.{◌>>=◌, check, number, number_at, list_at}
 
 -- an element behind its table; `text` is what it has beside it
 unfoldable pub tabled_text : {X : Type 0} → (X → ℕ × ℕ) → (X → List ℕ) → X → List ℕ
@@ -48,10 +46,6 @@ last_place place before (x ∷ xs) = last_place place (Some (place x)) xs
 abbrev pub is_above : Option (ℕ × ℕ) → ℕ → Bool
 is_above None table = true
 is_above (Some p) table = nat_lt p.0 table
-
--- these elements and bytes are what reading leaves, unless memory ran out
-abbrev pub Leaves : {X U : Type 0} → Result (List X × List ℕ) FormFault → Vec X → List ℕ → Result U ReadError → Type 0
-Leaves read elements bytes result = GivesOrRunsOut (λ _. (elements.items, bytes)) result read
 
 -- so many elements of a table behind these; `one` reads one of a table, and is told the place before it
 unfoldable pub elements_at : {X : Type 0} → (X → ℕ × ℕ) → (ℕ → Option (ℕ × ℕ) → List ℕ → Result (X × List ℕ) FormFault) → ℕ → ℕ → List X → List ℕ → Result (List X × List ℕ) FormFault

@@ -1,18 +1,22 @@
 //! What ends and rows have in common: the elements of an entry's lists, which version 2 writes in groups.
 
-ghost use Rattle.std.specs.Prelude.{◌≡◌, ◌≤◌, ◌++◌, length, take, OnOk, OnErr};
-ghost use Rattle.hk_codec.specs.Encoding as spec;
+ghost use Rattle.hk_frames.specs.Fields.{GivesValue};
+ghost use Rattle.hk_codec.specs.Reading.{keyed_end_at};
 
-use crate::lists::{Before, read_keyed_end, read_keyed_row};
 use hk_frames::{Cursor, ReadError, put_body, put_u32, put_u64};
-use hk_types::{Key, Row, Table, Time, VersionKey};
+use hk_log::is_after;
+use hk_types::{FormFault, Key, Row, Table, Tag, Time, VersionKey};
 use std::alloc::{AllocError, Global};
+
+/// The place before, where there is one.
+pub(crate) type Before = Option<(Table, Key)>;
 
 /// A kind of element. Each has a place, its table and key; the table comes before a group of them.
 pub(crate) trait Elements {
     ghost use Rattle.std.specs.Prelude.{◌≡◌, ◌≤◌, ◌++◌, ℕ, List, Option, Result, length, take, OnOk, OnErr};
     ghost use Rattle.hk_types.specs.declared.faults.FormFault.{FormFault};
-    ghost use Rattle.hk_frames.specs.Fields.{GivesOrRunsOut};
+    ghost use Rattle.hk_frames.specs.Fields.{GivesValue, GivesOrRunsOut};
+    ghost use Rattle.hk_codec.specs.Kept.{Reader, place_read};
 
     /// An element.
     type Value: Drop;
@@ -27,7 +31,7 @@ pub(crate) trait Elements {
     ghost Fits: { Self.Value → Type 0 };
 
     /// What the bytes encode, in an entry of this time, of an element of this table after the place before it.
-    ghost read: { ℕ → ℕ → Option (ℕ × ℕ) → List ℕ → Result (Self.Value × List ℕ) FormFault };
+    ghost read: { Reader Self.Value };
 
     /// The table and the key.
     fn place_of(element: &Self::Value) -> (Table, Key)
@@ -53,52 +57,38 @@ pub(crate) trait Elements {
         before: Before,
     ) -> Result<Self::Value, ReadError>
         ensures { GivesOrRunsOut (λ x. (x, cursor.new)) result (read time table before cursor.old) };
+
+    /// Passes over an element of a table, which is tested as where it is read, and returns its place. It allocates nothing.
+    fn pass_one(
+        cursor: &mut Cursor,
+        time: Time,
+        table: Table,
+        before: Before,
+    ) -> Result<(Table, Key), FormFault>
+        ensures { GivesValue (λ p. (p, cursor.new)) result (place_read place read time table before cursor.old) };
 }
 
-/// Adds an end without its table.
-#[tactic(auto, using(std::proofs::Common::append_assoc, hk_frames::proofs::Prefix::kept_all, hk_frames::proofs::Prefix::kept_before), unfolding(crate::specs::Encoding::keyed_end_text))]
-pub(crate) fn put_keyed_end(out: &mut Vec<u8>, end: &VersionKey) -> Result<(), AllocError>
-    ensures ok { OnOk result (out.new.items ≡ out.old.items ++ spec.keyed_end_text end.now) }
-    ensures kept { OnErr result (take (length out.old.items) out.new.items ≡ out.old.items) }
+/// Reads an end of a table.
+#[inline(always)]
+#[tactic(auto, unfolding(crate::specs::Reading::keyed_end_at))]
+fn read_end(
+    cursor: &mut Cursor,
+    time: Time,
+    table: Table,
+    before: Before,
+) -> Result<VersionKey, FormFault>
+    ensures { GivesValue (λ x. (x, cursor.new)) result (keyed_end_at time table before cursor.old) }
 {
-    put_u64(out, end.key.number())?;
-    put_u64(out, end.born.number())
-}
-
-/// Adds a row without its table.
-#[tactic(auto, using(std::proofs::Common::append_assoc, hk_frames::proofs::Prefix::kept_all, hk_frames::proofs::Prefix::kept_before, hk_frames::proofs::Prefix::kept_both), unfolding(crate::specs::Encoding::keyed_row_text))]
-pub(crate) fn put_keyed_row(out: &mut Vec<u8>, row: &(Table, Key, Row)) -> Result<(), AllocError>
-    ensures ok { OnOk result (out.new.items ≡ out.old.items ++ spec.keyed_row_text row.now) }
-    ensures kept { OnErr result (take (length out.old.items) out.new.items ≡ out.old.items) }
-{
-    put_u64(out, row.1.number())?;
-    put_u32(out, row.2.tag().number())?;
-    put_body(out, row.2.body())
-}
-
-/// How many bytes an end has beside its table. Its numbers are read for the bounds that their types state.
-#[tactic(auto, using(crate::proofs::Lengths::keyed_end_len))]
-pub(crate) fn keyed_end_len(end: &VersionKey) -> u32
-    ensures len { result ≡ length (spec.keyed_end_text end.now) }
-    ensures most { result ≤ 4110 }
-    ensures fits { spec.EndFits end.now }
-{
-    let _known = end.table.number();
-    let _known = end.key.number();
-    16
-}
-
-/// How many bytes a row has beside its table. Its numbers are read for the bounds that their types state.
-#[tactic(auto, using(crate::proofs::Lengths::keyed_row_len))]
-pub(crate) fn keyed_row_len(row: &(Table, Key, Row)) -> u32
-    ensures len { result ≡ length (spec.keyed_row_text row.now) }
-    ensures most { result ≤ 4110 }
-    ensures fits { spec.RowFits row.now }
-{
-    let _known = row.0.number();
-    let _known = row.1.number();
-    let _known = row.2.tag().number();
-    14 + row.2.body().len() as u32
+    let key = Key::new(cursor.u64()?);
+    let born = cursor.u64()?;
+    if !is_after(before, table, key) {
+        return Err(FormFault::BadOrder);
+    }
+    if born < 1 || born >= time.number() {
+        return Err(FormFault::BadNumber);
+    }
+    let born = Time::new(born)?;
+    Ok(VersionKey { table, key, born })
 }
 
 /// The ends of an entry: the versions that it ended.
@@ -123,14 +113,21 @@ impl Elements for Ends {
         (end.table, end.key)
     }
 
+    // The numbers are read for the bounds that their types state.
+    #[tactic(auto, using(crate::proofs::Lengths::keyed_end_len))]
     fn len_of(end: &VersionKey) -> u32 {
-        keyed_end_len(end)
+        let _known = end.table.number();
+        let _known = end.key.number();
+        16
     }
 
+    #[tactic(auto, using(std::proofs::Common::append_assoc, hk_frames::proofs::Prefix::kept_all, hk_frames::proofs::Prefix::kept_before), unfolding(crate::specs::Encoding::keyed_end_text))]
     fn put(out: &mut Vec<u8>, end: &VersionKey) -> Result<(), AllocError> {
-        put_keyed_end(out, end)
+        put_u64(out, end.key.number())?;
+        put_u64(out, end.born.number())
     }
 
+    #[inline(always)]
     fn read_one(
         _alloc: Global,
         cursor: &mut Cursor,
@@ -138,7 +135,18 @@ impl Elements for Ends {
         table: Table,
         before: Before,
     ) -> Result<VersionKey, ReadError> {
-        Ok(read_keyed_end(cursor, time, table, before)?)
+        Ok(read_end(cursor, time, table, before)?)
+    }
+
+    #[inline(always)]
+    fn pass_one(
+        cursor: &mut Cursor,
+        time: Time,
+        table: Table,
+        before: Before,
+    ) -> Result<(Table, Key), FormFault> {
+        let end = read_end(cursor, time, table, before)?;
+        Ok((end.table, end.key))
     }
 }
 
@@ -164,14 +172,24 @@ impl Elements for Rows {
         (row.0, row.1)
     }
 
+    // The numbers are read for the bounds that their types state.
+    #[tactic(auto, using(crate::proofs::Lengths::keyed_row_len))]
     fn len_of(row: &(Table, Key, Row)) -> u32 {
-        keyed_row_len(row)
+        let _known = row.0.number();
+        let _known = row.1.number();
+        let _known = row.2.tag().number();
+        14 + row.2.body().len() as u32
     }
 
+    #[tactic(auto, using(std::proofs::Common::append_assoc, hk_frames::proofs::Prefix::kept_all, hk_frames::proofs::Prefix::kept_before, hk_frames::proofs::Prefix::kept_both), unfolding(crate::specs::Encoding::keyed_row_text))]
     fn put(out: &mut Vec<u8>, row: &(Table, Key, Row)) -> Result<(), AllocError> {
-        put_keyed_row(out, row)
+        put_u64(out, row.1.number())?;
+        put_u32(out, row.2.tag().number())?;
+        put_body(out, row.2.body())
     }
 
+    #[inline(always)]
+    #[tactic(auto, unfolding(crate::specs::Reading::keyed_row_at))]
     fn read_one(
         alloc: Global,
         cursor: &mut Cursor,
@@ -179,6 +197,29 @@ impl Elements for Rows {
         table: Table,
         before: Before,
     ) -> Result<(Table, Key, Row), ReadError> {
-        read_keyed_row(alloc, cursor, table, before)
+        let key = Key::new(cursor.u64()?);
+        if !is_after(before, table, key) {
+            return Err(ReadError::Fault(FormFault::BadOrder));
+        }
+        let tag = Tag::new(cursor.u32()?);
+        let row = cursor.row(alloc, tag)?;
+        Ok((table, key, row))
+    }
+
+    #[inline(always)]
+    #[tactic(auto, unfolding(crate::specs::Reading::keyed_row_at))]
+    fn pass_one(
+        cursor: &mut Cursor,
+        _time: Time,
+        table: Table,
+        before: Before,
+    ) -> Result<(Table, Key), FormFault> {
+        let key = Key::new(cursor.u64()?);
+        if !is_after(before, table, key) {
+            return Err(FormFault::BadOrder);
+        }
+        let _tag = cursor.u32()?;
+        let _body = cursor.body()?;
+        Ok((table, key))
     }
 }

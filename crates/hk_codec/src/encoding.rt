@@ -7,8 +7,9 @@ ghost use Rattle.hk_codec.specs.Encoding as spec;
 ghost use Rattle.hk_codec.specs.Frames.{encoding_of, Reads};
 
 use crate::elements::{Ends, Rows};
+use crate::kept_lists::VERSION_1;
 use crate::list_encoding::{list_len, put_list};
-use crate::reading::{ENTRY_KIND, MARK_KIND, VERSION_1, VERSION_2};
+use crate::reading::{ENTRY_KIND, MARK_KIND, VERSION_2};
 use hk_frames::{LENGTH_BYTES, put_u16, put_u32, put_u64};
 use hk_log::{Entry, Item, Mark};
 use hk_types::{Refusal, StreamNo};

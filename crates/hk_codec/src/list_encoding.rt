@@ -5,7 +5,7 @@ ghost use Rattle.std.specs.List.{flat_map};
 ghost use Rattle.hk_codec.specs.Lists as spec;
 
 use crate::elements::Elements;
-use crate::reading::VERSION_1;
+use crate::kept_lists::VERSION_1;
 use hk_frames::put_u16;
 use hk_types::Table;
 use std::alloc::AllocError;

@@ -3,17 +3,16 @@
 ghost use Rattle.std.specs.Prelude.{◌≡◌, ◌⊎◌};
 ghost use Rattle.hk_frames.specs.Fields.{IsBytes, GivesValue, GivesOrRunsOut, mapped};
 ghost use Rattle.hk_codec.specs.Reading as spec;
+ghost use Rattle.hk_codec.specs.Outlines.{entry_outline_behind, outline_behind};
 
 use crate::elements::{Ends, Rows};
-use crate::groups::read_groups;
-use crate::lists::{read_ends, read_rows};
+use crate::kept::{All, Keeps, Passed};
+use crate::kept_lists::{VERSION_1, read_list};
+use crate::outline::{EntryOutline, ItemOutline};
 use hk_frames::{Cursor, Format, ReadError};
-use hk_log::{Entry, Item, MOST_WRITES, Mark};
+use hk_log::{Entry, Item, Mark};
 use hk_types::{FormFault, Key, Row, StreamNo, Table, Time, VersionKey};
 use std::alloc::Global;
-
-/// The version byte of frames that name the table of each end and row.
-pub(crate) const VERSION_1: u8 = 1;
 
 /// The version byte of frames with their ends and rows in groups of one table.
 pub(crate) const VERSION_2: u8 = 2;
@@ -38,69 +37,9 @@ fn read_moment(cursor: &mut Cursor) -> Result<(u64, Time), FormFault>
     Ok((number, time))
 }
 
-#[tactic(auto, unfolding(crate::specs::Reading::counted_ends_at))]
-fn read_counted_ends(
-    alloc: Global,
-    cursor: &mut Cursor,
-    time: Time,
-) -> Result<Vec<VersionKey>, ReadError>
-    ensures { GivesOrRunsOut (λ x. (x.items, cursor.new)) result (spec.counted_ends_at time cursor.old) }
-{
-    let count = cursor.u16()?;
-    if count as usize > MOST_WRITES {
-        return Err(ReadError::Fault(FormFault::BadCount));
-    }
-    read_ends(alloc, cursor, count, time)
-}
-
-#[tactic(auto, unfolding(crate::specs::Reading::counted_rows_at))]
-fn read_counted_rows(
-    alloc: Global,
-    cursor: &mut Cursor,
-    ends: usize,
-) -> Result<Vec<(Table, Key, Row)>, ReadError>
-    ensures { GivesOrRunsOut (λ x. (x.items, cursor.new)) result (spec.counted_rows_at ends cursor.old) }
-{
-    let count = cursor.u16()?;
-    if count as usize > MOST_WRITES || (ends == 0 && count == 0) {
-        return Err(ReadError::Fault(FormFault::BadCount));
-    }
-    read_rows(alloc, cursor, count)
-}
-
-#[tactic(auto, unfolding(crate::specs::Reading::grouped_ends_at))]
-fn read_grouped_ends(
-    alloc: Global,
-    cursor: &mut Cursor,
-    time: Time,
-) -> Result<Vec<VersionKey>, ReadError>
-    ensures { GivesOrRunsOut (λ x. (x.items, cursor.new)) result (spec.grouped_ends_at time cursor.old) }
-{
-    let count = cursor.u16()?;
-    if count as usize > MOST_WRITES {
-        return Err(ReadError::Fault(FormFault::BadCount));
-    }
-    read_groups::<Ends>(alloc, cursor, time, count)
-}
-
-#[tactic(auto, unfolding(crate::specs::Reading::grouped_rows_at))]
-fn read_grouped_rows(
-    alloc: Global,
-    cursor: &mut Cursor,
-    time: Time,
-    ends: usize,
-) -> Result<Vec<(Table, Key, Row)>, ReadError>
-    ensures { GivesOrRunsOut (λ x. (x.items, cursor.new)) result (spec.grouped_rows_at ends cursor.old) }
-{
-    let count = cursor.u16()?;
-    if count as usize > MOST_WRITES || (ends == 0 && count == 0) {
-        return Err(ReadError::Fault(FormFault::BadCount));
-    }
-    read_groups::<Rows>(alloc, cursor, time, count)
-}
-
 /// Reads the ends as the version has them.
-fn read_version_ends(
+#[tactic(auto, using(crate::proofs::KeptLists::all_ends))]
+fn read_ends(
     alloc: Global,
     cursor: &mut Cursor,
     version: u8,
@@ -108,15 +47,13 @@ fn read_version_ends(
 ) -> Result<Vec<VersionKey>, ReadError>
     ensures { GivesOrRunsOut (λ x. (x.items, cursor.new)) result (spec.ends_of_version version time cursor.old) }
 {
-    if version == VERSION_1 {
-        read_counted_ends(alloc, cursor, time)
-    } else {
-        read_grouped_ends(alloc, cursor, time)
-    }
+    let kept: All<Ends> = read_list(alloc, cursor, version, time, 1)?;
+    Ok(kept.elements)
 }
 
-/// Reads the rows as the version has them.
-fn read_version_rows(
+/// Reads the rows as the version has them, of an entry with so many ends.
+#[tactic(auto, using(crate::proofs::KeptLists::all_rows))]
+fn read_rows(
     alloc: Global,
     cursor: &mut Cursor,
     version: u8,
@@ -125,11 +62,8 @@ fn read_version_rows(
 ) -> Result<Vec<(Table, Key, Row)>, ReadError>
     ensures { GivesOrRunsOut (λ x. (x.items, cursor.new)) result (spec.rows_of_version version ends cursor.old) }
 {
-    if version == VERSION_1 {
-        read_counted_rows(alloc, cursor, ends)
-    } else {
-        read_grouped_rows(alloc, cursor, time, ends)
-    }
+    let kept: All<Rows> = read_list(alloc, cursor, version, time, ends)?;
+    Ok(kept.elements)
 }
 
 #[tactic(auto, unfolding(crate::specs::Reading::mark_at))]
@@ -143,7 +77,7 @@ fn read_mark(cursor: &mut Cursor, log: u64, stream: StreamNo) -> Result<Mark, Fo
 
 /// What the first bytes of a rest encode.
 #[derive(Clone, Copy)]
-struct FrameHead {
+pub(crate) struct FrameHead {
     version: u8,
     kind: u8,
     log: u64,
@@ -151,7 +85,7 @@ struct FrameHead {
 }
 
 #[tactic(auto, unfolding(crate::specs::Reading::head_at))]
-fn read_head(cursor: &mut Cursor) -> Result<FrameHead, FormFault>
+pub(crate) fn read_head(cursor: &mut Cursor) -> Result<FrameHead, FormFault>
     ensures { GivesValue (λ x. (spec.head_seen x, cursor.new)) result (spec.head_at cursor.old) }
 {
     let version = cursor.u8()?;
@@ -179,8 +113,8 @@ fn read_entry(alloc: Global, cursor: &mut Cursor, head: FrameHead) -> Result<Ent
     ensures { GivesOrRunsOut (λ x. (x, cursor.new)) result (spec.entry_behind (spec.head_seen head) cursor.old) }
 {
     let (number, time) = read_moment(cursor)?;
-    let ends = read_version_ends(alloc, cursor, head.version, time)?;
-    let rows = read_version_rows(alloc, cursor, head.version, time, ends.len())?;
+    let ends = read_ends(alloc, cursor, head.version, time)?;
+    let rows = read_rows(alloc, cursor, head.version, time, ends.len())?;
     let _known = head.stream.number();
     Ok(Entry::of_parts(head.log, head.stream, number, time, ends, rows))
 }
@@ -214,6 +148,45 @@ pub(crate) fn read_item(alloc: Global, rest: &[u8]) -> Result<Item, ReadError>
         return Err(ReadError::Fault(FormFault::WrongLength));
     }
     Ok(item)
+}
+
+/// Passes over what follows the head of an entry.
+fn pass_entry(
+    alloc: Global,
+    cursor: &mut Cursor,
+    head: FrameHead,
+) -> Result<EntryOutline, ReadError>
+    ensures { GivesOrRunsOut (λ x. (x, cursor.new)) result (entry_outline_behind (spec.head_seen head) cursor.old) }
+{
+    let (number, time) = read_moment(cursor)?;
+    let passed: Passed<Ends> = read_list(alloc, cursor, head.version, time, 1)?;
+    let ends = passed.count();
+    let others: Passed<Rows> = read_list(alloc, cursor, head.version, time, ends)?;
+    Ok(EntryOutline {
+        log: head.log,
+        stream: head.stream,
+        number,
+        time,
+        ends,
+        rows: others.count(),
+    })
+}
+
+/// Passes over what follows the head.
+#[tactic(auto, unfolding(crate::specs::Reading::kind_at))]
+pub(crate) fn pass_kind(
+    alloc: Global,
+    cursor: &mut Cursor,
+    head: FrameHead,
+) -> Result<ItemOutline, ReadError>
+    ensures { GivesOrRunsOut (λ x. (x, cursor.new)) result (outline_behind (spec.head_seen head) cursor.old) }
+{
+    if head.kind == ENTRY_KIND {
+        let entry = pass_entry(alloc, cursor, head)?;
+        return Ok(ItemOutline::Commit(entry));
+    }
+    let mark = read_mark(cursor, head.log, head.stream)?;
+    Ok(ItemOutline::Closed(mark))
 }
 
 /// The format of items. The least rest is a mark's. The greatest is that in version 2 of an entry with 1,024 ends and

@@ -8,4 +8,4 @@ invariant-loop-part g l =
     (goal.iterator-loop-part g).can_next l.part-iterator
     × (goal.iterator-loop-part g).is_finite l.part-iterator
     × (done : List ℕ) × (l.fn.piece ≡ done ++ chunks_rest l.part-iterator)
-    × GoesOn g.S.Sink.took l.fn.sink l.sink l.fn.feeder l.feeder done
+    × GoesOn g.S.Item.FromFrame.Reads g.S.Sink.took l.fn.sink l.sink l.fn.feeder l.feeder done
