@@ -88,11 +88,12 @@ impl TimedRows {
 
     /// Adds a row with a time, where there is one. What is there stays.
     ///
-    /// The only refusal is `Memory`. Cost: that of `add`.
+    /// The only refusal is `Memory`; then nothing is changed. Cost: that of `add`.
     pub fn add_if(&mut self, time: Option<Time>, row: RowKey) -> Result<(), Refusal>
         ensures ok { OnOk result (IfSome time (λ t. has_row self.new t row ≡ true)) }
         ensures kept { StillThere self.old self.new }
         ensures err { IfErr result (λ why. why ≡ Memory) }
+        ensures back { OnErr result (self.new ≡ self.old) }
     {
         match time {
             Some(time) => self.add(time, row),
