@@ -481,24 +481,62 @@ fn new_list(is_guarded: bool) -> Result<NewList, Fail> {
     })
 }
 
+/// A day's steps, with a node that settles and one that doesn't.
+fn day<R: Wait + Abort>(
+    rt: &R,
+    alloc: Global,
+    is_guarded: bool,
+    rows: &[(Does, Tells)],
+) -> Result<(), Fail> {
+    steps::<Brand, R>(rt, alloc, new_list(is_guarded)?, false, rows)?;
+    steps::<Brand, R>(rt, alloc, new_list(is_guarded)?, true, rows)
+}
+
+// (A function for each list of steps: the lists are made where they are named.)
+fn day_of_a_hold<R: Wait + Abort>(rt: &R, alloc: Global) -> Result<(), Fail> {
+    day(rt, alloc, false, &A_HOLD)
+}
+
+fn day_of_holds<R: Wait + Abort>(rt: &R, alloc: Global, is_guarded: bool) -> Result<(), Fail> {
+    day(rt, alloc, is_guarded, &HOLDS)
+}
+
+fn day_of_repeats<R: Wait + Abort>(rt: &R, alloc: Global) -> Result<(), Fail> {
+    day(rt, alloc, false, &AGAIN)
+}
+
+fn day_of_damage<R: Wait + Abort>(rt: &R, alloc: Global) -> Result<(), Fail> {
+    day(rt, alloc, false, &DAMAGE)
+}
+
+fn day_of_the_newest<R: Wait + Abort>(rt: &R, alloc: Global) -> Result<(), Fail> {
+    day(rt, alloc, false, &NEWEST)
+}
+
+fn day_of_a_guard<R: Wait + Abort>(rt: &R, alloc: Global) -> Result<(), Fail> {
+    day(rt, alloc, true, &GUARDED)
+}
+
+fn day_of_merges<R: Wait + Abort>(rt: &R, alloc: Global) -> Result<(), Fail> {
+    day(rt, alloc, true, &MERGED)
+}
+
+fn day_of_closed_times<R: Wait + Abort>(rt: &R, alloc: Global) -> Result<(), Fail> {
+    day(rt, alloc, true, &CLOSED)
+}
+
 #[test]
 fn one_day(rt: HostRuntime) -> Result<(), Fail> {
     let alloc = rt.alloc();
-    for (is_guarded, rows) in [
-        (false, A_HOLD.as_slice()),
-        (false, HOLDS.as_slice()),
-        (false, AGAIN.as_slice()),
-        (false, DAMAGE.as_slice()),
-        (false, NEWEST.as_slice()),
-        (true, HOLDS.as_slice()),
-        (true, GUARDED.as_slice()),
-        (true, MERGED.as_slice()),
-        (true, CLOSED.as_slice()),
-    ] {
-        steps::<Brand, _>(&rt, alloc, new_list(is_guarded)?, false, rows)?;
-        steps::<Brand, _>(&rt, alloc, new_list(is_guarded)?, true, rows)?;
-    }
-    Ok(())
+    day_of_a_hold(&rt, alloc)?;
+    day_of_holds(&rt, alloc, false)?;
+    day_of_repeats(&rt, alloc)?;
+    day_of_damage(&rt, alloc)?;
+    day_of_the_newest(&rt, alloc)?;
+    day_of_holds(&rt, alloc, true)?;
+    day_of_a_guard(&rt, alloc)?;
+    day_of_merges(&rt, alloc)?;
+    day_of_closed_times(&rt, alloc)
 }
 
 #[test]

@@ -70,29 +70,56 @@ fn a_node_counts_what_it_holds(rt: HostRuntime) -> Result<(), Fail> {
     counts::<Brand, _>(&rt, alloc, NewList::new(config()?))
 }
 
-/// Joins, a repeat, and prunes that drop few versions and many.
+/// Joins such an entry, after which the node agrees with a count.
+fn grow<J: NodeName, R: Wait + Abort, S: Wait + Drop>(
+    rt: &R,
+    alloc: Global,
+    node: &Node<J, S>,
+    seat: &mut ReaderSeat<J>,
+    number: u64,
+) -> Result<(), Fail> {
+    join_wide(rt, alloc, node, wide(alloc, number, 50, 50)?, number)?;
+    assert!(rt; agrees(seat)?);
+    Ok(())
+}
+
+/// Six entries, the last of them twice.
+fn grow_all<J: NodeName, R: Wait + Abort, S: Wait + Drop>(
+    rt: &R,
+    alloc: Global,
+    node: &Node<J, S>,
+    seat: &mut ReaderSeat<J>,
+) -> Result<(), Fail> {
+    for number in [1, 2, 3, 4, 5, 6, 6] {
+        grow(rt, alloc, node, seat, number)?;
+    }
+    assert_eq!(rt; seat.sizes()?.rows, 300u64);
+    Ok(())
+}
+
+/// Prunes that drop few versions and many.
+fn shrink<J: NodeName, R: Wait + Abort, S: Wait + Drop>(
+    rt: &R,
+    node: &Node<J, S>,
+    seat: &mut ReaderSeat<J>,
+) -> Result<(), Fail> {
+    for to in [3, 6, 7] {
+        node.prune(rt, time(to)?)?;
+        assert!(rt; agrees(seat)?);
+    }
+    assert_eq!(rt; seat.sizes()?.rows, 98u64);
+    Ok(())
+}
+
 fn counts<J: NodeName, R: Wait + Abort>(rt: &R, alloc: Global, list: NewList) -> Result<(), Fail>
     requires { list ≡ (J.book, J.kind) }
 {
     let (node, mut seats) = start::<J, &R>(rt, alloc, list, 1)?;
     let seat = seats.first_mut().ok_or("seat")?;
     assert!(rt; agrees(seat)?);
-    for number in 1..=6u64 {
-        join_wide(rt, alloc, &node, wide(alloc, number, 50, 50)?, number)?;
-        assert!(rt; agrees(seat)?);
-    }
-    join_wide(rt, alloc, &node, wide(alloc, 6, 50, 50)?, 6)?;
-    assert!(rt; agrees(seat)?);
-    assert_eq!(rt; seat.sizes()?.rows, 300u64);
+    grow_all(rt, alloc, &node, seat)?;
     join_wide(rt, alloc, &node, wide(alloc, 7, 50, 2)?, 7)?;
-    node.prune(rt, time(3)?)?;
-    assert!(rt; agrees(seat)?);
-    node.prune(rt, time(6)?)?;
-    assert!(rt; agrees(seat)?);
-    node.prune(rt, time(7)?)?;
-    assert!(rt; agrees(seat)?);
-    assert_eq!(rt; seat.sizes()?.rows, 98u64);
-    Ok(())
+    shrink(rt, &node, seat)
 }
 
 #[test]
@@ -112,6 +139,42 @@ fn lacks<X: Drop>(answer: Result<X, Refusal>) -> bool {
     }
 }
 
+/// All rows of table 3 with keys up to a bound.
+fn up_to(key: u64) -> Query {
+    Query::Range {
+        table: Table::new(3),
+        low: Key::new(1),
+        high: Key::new(key),
+    }
+}
+
+/// A page, a delta, a get and a range of few rows have room where a full snapshot and a range of many have none.
+fn few_have_room<J: NodeName, R: Abort>(rt: &R, seat: &mut ReaderSeat<J>) -> Result<(), Fail> {
+    let (table, low, high) = (Table::new(3), Key::new(1), Key::new(400));
+    assert!(rt; seat.ask(time(2)?, &up_to(2)).is_ok() && seat.ask(time(2)?, &get(1)).is_ok());
+    assert!(rt; seat.delta_since(time(1)?).is_ok());
+    assert!(rt; seat.page(time(2)?, table, low, high, 1_000).is_ok());
+    Ok(())
+}
+
+fn many_have_none<J: NodeName, R: Abort>(rt: &R, seat: &mut ReaderSeat<J>) -> Result<(), Fail> {
+    let many = up_to(400);
+    assert!(rt; lacks(seat.whole()));
+    assert!(rt; lacks(seat.ask(time(2)?, &many)) && lacks(seat.latest(&many)));
+    Ok(())
+}
+
+fn within<J: NodeName, R: Abort>(rt: &R, seat: &mut ReaderSeat<J>) -> Result<(), Fail> {
+    assert!(rt; seat.whole().is_ok() && seat.ask(time(2)?, &up_to(400)).is_ok());
+    seat.keep_within(4_000);
+    many_have_none(rt, seat)?;
+    few_have_room(rt, seat)?;
+    seat.keep_within(100);
+    assert!(rt; lacks(seat.delta_since(time(1)?)));
+    assert!(rt; seat.streams().is_ok() && seat.front().is_ok());
+    Ok(())
+}
+
 fn rooms<J: NodeName, R: Wait + Abort>(rt: &R, alloc: Global, list: NewList) -> Result<(), Fail>
     requires { list ≡ (J.book, J.kind) }
 {
@@ -119,22 +182,5 @@ fn rooms<J: NodeName, R: Wait + Abort>(rt: &R, alloc: Global, list: NewList) -> 
     let seat = seats.first_mut().ok_or("seat")?;
     join_wide(rt, alloc, &node, wide(alloc, 1, 400, 0)?, 1)?;
     join_wide(rt, alloc, &node, wide(alloc, 2, 4, 4)?, 2)?;
-    let (table, low, high) = (Table::new(3), Key::new(1), Key::new(400));
-    let many = Query::Range { table, low, high };
-    let few = Query::Range {
-        table,
-        low,
-        high: Key::new(2),
-    };
-    assert!(rt; seat.whole().is_ok() && seat.ask(time(2)?, &many).is_ok());
-    seat.keep_within(4_000);
-    assert!(rt; lacks(seat.whole()));
-    assert!(rt; lacks(seat.ask(time(2)?, &many)) && lacks(seat.latest(&many)));
-    assert!(rt; seat.ask(time(2)?, &few).is_ok() && seat.ask(time(2)?, &get(1)).is_ok());
-    assert!(rt; seat.delta_since(time(1)?).is_ok());
-    assert!(rt; seat.page(time(2)?, table, low, high, 1_000).is_ok());
-    seat.keep_within(100);
-    assert!(rt; lacks(seat.delta_since(time(1)?)));
-    assert!(rt; seat.streams().is_ok() && seat.front().is_ok());
-    Ok(())
+    within(rt, seat)
 }
