@@ -1,0 +1,7 @@
+use Rattle.std.proofs.Common.{rules}
+use Rattle.hk_values.specs.Fragments.{whole_at}
+use Rattle.hk_values.proofs.fragment_reading.read_whole.Goals as goal
+
+pub returns : goal.returns
+unfolding whole_at
+returns c = search rules
