@@ -2,9 +2,9 @@
 
 ghost use Rattle.std.specs.Prelude.{◌≡◌, ◌++◌, ◌∷◌, [], IfOk, OnOk};
 ghost use Rattle.std.specs.List.{filter_map};
-ghost use Rattle.hk_model.specs.History.Histories.{Follows, commits, put_row};
+ghost use Rattle.hk_model.specs.History.Histories.{Follows, commits, put_row, written_key};
 ghost use Rattle.hk_primary.specs.Calls.{next_entry};
-ghost use Rattle.hk_primary.specs.Looks.{ended_by_all, version_born};
+ghost use Rattle.hk_primary.specs.Looks.{ended_by_all, put_time_of_row, version_born};
 ghost use Rattle.hk_primary.specs.Txns.{committed_at, writes_in};
 
 use crate::primary::Primary;
@@ -61,10 +61,16 @@ impl Primary {
     {
         let mut ends = Vec::new(self.alloc);
         for write in txn.writes() {
-            let key = RowKey::of(write);
-            push_end(&mut ends, key, self.put_at(key))?;
+            push_end(&mut ends, RowKey::of(write), self.ended_at(write))?;
         }
         Ok(ends)
+    }
+
+    /// When the row that a write ends was put in, if it ends one.
+    fn ended_at(&self, write: &WriteOp) -> Option<Time>
+        ensures { result ≡ put_time_of_row (commits self.now.history) (written_key write.now) }
+    {
+        self.put_at(RowKey::of(write))
     }
 
     /// The entry of a transaction that may follow.
