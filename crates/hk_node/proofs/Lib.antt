@@ -8,3 +8,4 @@ pub mod WaitingHold
 pub mod GuardedChanges
 pub mod NewItems
 pub mod TakenItems
+pub mod SomeLists

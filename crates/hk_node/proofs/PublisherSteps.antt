@@ -1,5 +1,5 @@
 -- What lies under the writer's lock, after a step.
-use Rattle.std.proofs.Common.{◌≡◌, true, List, [], ◌∷◌, ◌++◌, Option, Some, None, refl, sym, ap, ◌∙◌, subst, arith}
+use Rattle.std.proofs.Common.{◌≡◌, true, false, is_some, List, [], ◌∷◌, ◌++◌, Option, Some, None, refl, sym, ap, ◌∙◌, subst, arith}
 use Rattle.std.proofs.lemmas.List.{append-nil}
 use Rattle.logbook.specs.Pages.{Book}
 use Rattle.hk_oplog.specs.declared.op.NodeKind.{NodeKind}
@@ -9,7 +9,7 @@ use Rattle.hk_node.specs.declared.replica.Replica.{Replica}
 use Rattle.hk_node.specs.declared.replica.Logged.{Logged}
 use Rattle.hk_oplog.specs.NodeContent.{NodeContent}
 use Rattle.hk_oplog.specs.Replay.{kind_of, replay, refusal_of, content_after_op, start_content, is_legal}
-use Rattle.hk_node.specs.Published.{View, queue, ops_of, IsReplay, IsPublisher}
+use Rattle.hk_node.specs.Published.{View, queue, ops_of, IsReady, IsReplay, IsPublisher}
 use Rattle.hk_oplog.proofs.LegalLists.{kind-snoc, replay-snoc, legal-snoc}
 
 pub none_pending : (pending : List Logged) (late : Option Logged) → ops_of (queue pending late) ≡ [] → pending ≡ []
@@ -51,3 +51,12 @@ new_publisher book counter shown kind pending list body name counted none =
       few = omega arith;
     } in
     subst (λ (p : List Logged). IsPublisher book kind counter shown p) (sym none) all
+
+-- with nothing beside the writer's log, what is in it may be published
+pub settles : (book : Book) (kind : NodeKind) (counter : Book) (shown : Replica) (pending : List Logged) (late : Option Logged) → false ≡ is_some late → IsPublisher book kind counter shown (queue pending late) → IsReady shown pending
+settles book kind counter shown pending None none s = record {
+  replayed = s.replayed;
+  longer = (ops_of pending, sym (ap (λ (v : View). v.1) s.list));
+  same = s.name ∙ sym (ap (λ (v : View). v.0) s.list);
+}
+settles book kind counter shown pending (Some o) none s = absurd (cc)

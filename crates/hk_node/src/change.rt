@@ -1,6 +1,7 @@
 //! How a change runs.
 
 ghost use Rattle.std.specs.Prelude.{◌≡◌, ◌≤◌, [], None, Some, true, length, IfOk, IfErr};
+ghost use Rattle.hk_types.specs.declared.faults.Refusal.TheVariants.{Unpublished};
 ghost use Rattle.hk_model.specs.Replica.Fragments.{cut};
 ghost use Rattle.hk_oplog.specs.declared.op.Op.TheVariants.{Hold as HoldAt, Join as JoinOf, Merge as MergeOf, Prune as PruneTo, Release};
 ghost use Rattle.hk_node.specs.Changes.{all_of, AddsTo, Changes, CountedAs, HoldsAt, IsGiven, IsHandedBack, IsHandedOut, Prunes, Publishes, Refuses, ReleasesHold};
@@ -8,7 +9,7 @@ ghost use Rattle.hk_oplog.specs.Lists.{last_of};
 ghost use Rattle.hk_oplog.specs.NewItems.{new_to};
 ghost use Rattle.hk_oplog.specs.Replay.{is_legal, refusal_of, replay, IsListOf};
 
-use crate::book::NodeName;
+use crate::book::{NodeName, Prefix};
 use crate::publisher::{Publisher, Receipt};
 use hk_delta::Fragment;
 use hk_log::Item;
@@ -91,15 +92,23 @@ pub(crate) fn add<J: NodeName, R: Wait + Drop>(
     let Some(prefix) = publisher.extended(&op) else {
         return Err(Refusal::Memory);
     };
-    let ops = prefix.len();
+    let waits = unpublished(&prefix);
     publisher.put(op, prefix);
-    if publisher.publish().is_err() {
-        return Err(Refusal::Unpublished { ops });
-    }
+    let Ok(()) = publisher.publish() else {
+        return Err(waits);
+    };
     if publisher.published().body.is_damaged() {
         return Err(Refusal::Conflict);
     }
     Ok(publisher.receipt())
+}
+
+/// The refusal of a change that waits, with the number of its operation.
+fn unpublished(prefix: &Prefix) -> Refusal
+    ensures { result ≡ Unpublished (length prefix.now.1) }
+{
+    let ops = prefix.len();
+    Refusal::Unpublished { ops }
 }
 
 /// A publish, at what lies under the writer's lock: what waits is published, and the receipt names the complete list.
@@ -236,7 +245,17 @@ pub fn release_hold<J: NodeName, R: Wait + Drop>(
     };
     match change(publisher, op) {
         Ok(receipt) => Ok(receipt),
-        Err(Refusal::Unpublished { ops }) => Err((None, Refusal::Unpublished { ops })),
-        Err(why) => Err((Some(hold), why)),
+        Err(why) => Err(handed_back(hold, why)),
+    }
+}
+
+/// The refusal of a pin's release, with the pin but where its release waits.
+fn handed_back(hold: Hold, why: Refusal) -> (Option<Hold>, Refusal)
+    ensures why { result.1 ≡ why }
+    ensures back { IsHandedBack hold result.0 result.1 }
+{
+    match why {
+        Refusal::Unpublished { ops } => (None, Refusal::Unpublished { ops }),
+        why => (Some(hold), why),
     }
 }

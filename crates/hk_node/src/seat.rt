@@ -21,7 +21,7 @@ use crate::replica::Replica;
 use atomic_table::{Join, Split};
 use hk_delta::Fragment;
 use hk_model::{Answer, Front, Page, Query, StreamsTold};
-use hk_oplog::NodeSizes;
+use hk_oplog::{Body, NodeSizes};
 use hk_types::{Config, Key, Refusal, Table, Time};
 use std::alloc::{AllocError, Global};
 use std::marker::{Model, PhantomData};
@@ -57,7 +57,13 @@ fn seat_of<J: NodeName>(
 {
     let mut reader = writer.factory().reader()?;
     reader.learn::<Informs>(writer.tell::<Informs>());
-    Ok(ReaderSeat::new(reader, prefix.again(), alloc))
+    Ok(ReaderSeat {
+        reader: Some(reader),
+        prefix: prefix.again(),
+        alloc,
+        room: u64::MAX,
+        of: PhantomData,
+    })
 }
 
 /// So many seats that have seen what was published.
@@ -130,22 +136,72 @@ fn look(copy: &Replica, prefix: &mut Prefix) -> bool
     true
 }
 
-impl<J: NodeName> ReaderSeat<J> {
-    pub(crate) fn new(reader: NodeReader, prefix: Prefix, alloc: Global) -> ReaderSeat<J>
-        requires node { prefix.0 ≡ J.book }
-        requires kind { kind_of prefix.1 ≡ J.kind }
-        requires reader { IsOf J.book (known reader.place) }
-        ensures { result ≡ prefix.1 }
-    {
-        ReaderSeat {
-            reader: Some(reader),
-            prefix,
-            alloc,
-            room: u64::MAX,
-            of: PhantomData,
-        }
+/// Takes the list of a receipt, where it is no shorter than what was seen.
+fn take_longer(prefix: &mut Prefix, told: Prefix)
+    requires node { told.0 ≡ prefix.old.0 }
+    ensures node { prefix.new.0 ≡ prefix.old.0 }
+    ensures one { (prefix.new ≡ prefix.old) ⊎ (prefix.new ≡ told) }
+    ensures seen { IsPrefix prefix.old.1 prefix.new.1 }
+    ensures told { IsPrefix told.1 prefix.new.1 }
+{
+    if prefix.compare(&told) {
+        *prefix = told;
     }
+}
 
+/// What a copy answers, where that takes no more bytes than there is room for.
+fn answer_within(
+    alloc: Global,
+    body: &Body,
+    time: Time,
+    query: &Query,
+    room: u64,
+) -> Result<Answer, Refusal>
+    ensures { Answers (node_reply body.now time query.now) result }
+{
+    if body.is_answer_above(alloc, time, query, room) {
+        return Err(Refusal::Memory);
+    }
+    body.ask(alloc, time, query)
+}
+
+/// The same at the copy's resolved time.
+fn latest_within(
+    alloc: Global,
+    body: &Body,
+    query: &Query,
+    room: u64,
+) -> Result<(Time, Answer), Refusal>
+    ensures latest { GivesSeen timed_seen (node_latest body.now query.now) result }
+    ensures err { IfErr result (λ why. (why ≡ Memory) ⊎ (why ≡ Damaged)) }
+{
+    if body.is_latest_above(alloc, query, room) {
+        return Err(Refusal::Memory);
+    }
+    body.latest(alloc, query)
+}
+
+/// The delta of a copy, where it takes no more bytes than there is room for.
+fn delta_within(alloc: Global, body: &Body, base: Time, room: u64) -> Result<Fragment, Refusal>
+    ensures { GivesOrMemory (node_delta body.now base) result }
+{
+    if base.number() > 0 && body.is_cut_above(alloc, base, room) {
+        return Err(Refusal::Memory);
+    }
+    body.delta_since(alloc, base)
+}
+
+/// The full snapshot of a copy, where it takes no more bytes than there is room for.
+fn whole_within(alloc: Global, body: &Body, room: u64) -> Result<Fragment, Refusal>
+    ensures { GivesOrMemory (node_whole body.now) result }
+{
+    if body.is_cut_above(alloc, Time::zero(), room) {
+        return Err(Refusal::Memory);
+    }
+    body.whole(alloc)
+}
+
+impl<J: NodeName> ReaderSeat<J> {
     /// From now on an answer, a delta or a full snapshot that would take more bytes than so many, at most counted, is refused
     /// `Memory` before anything of it is made, and after the other refusals. A page always has room. A new seat has no such limit.
     pub fn keep_within(&mut self, room: u64)
@@ -189,104 +245,6 @@ impl<J: NodeName> ReaderSeat<J> {
         self.reader = Some(reading.leave());
     }
 
-    fn reply(&mut self, time: Time, query: &Query) -> Result<Answer, Refusal>
-        ensures list { IsListOf J.kind self.new }
-        ensures seen { IsPrefix self.old self.new }
-        ensures answer { Answers (node_reply (replay self.new) time query.now) result }
-    {
-        let reading = self.enter()?;
-        let body = &reading.get().body;
-        let answer = if body.is_answer_above(self.alloc, time, query, self.room) {
-            Err(Refusal::Memory)
-        } else {
-            body.ask(self.alloc, time, query)
-        };
-        self.leave(reading);
-        answer
-    }
-
-    fn newest(&mut self, query: &Query) -> Result<(Time, Answer), Refusal>
-        ensures list { IsListOf J.kind self.new }
-        ensures seen { IsPrefix self.old self.new }
-        ensures latest { GivesSeen timed_seen (node_latest (replay self.new) query.now) result }
-        ensures err { IfErr result (λ why. (why ≡ Memory) ⊎ (why ≡ Damaged)) }
-    {
-        let reading = self.enter()?;
-        let body = &reading.get().body;
-        let latest = if body.is_latest_above(self.alloc, query, self.room) {
-            Err(Refusal::Memory)
-        } else {
-            body.latest(self.alloc, query)
-        };
-        self.leave(reading);
-        latest
-    }
-
-    fn delta(&mut self, base: Time) -> Result<Fragment, Refusal>
-        ensures list { IsListOf J.kind self.new }
-        ensures seen { IsPrefix self.old self.new }
-        ensures delta { GivesOrMemory (node_delta (replay self.new) base) result }
-    {
-        let reading = self.enter()?;
-        let body = &reading.get().body;
-        let is_too_much = base.number() > 0 && body.is_cut_above(self.alloc, base, self.room);
-        let delta = if is_too_much {
-            Err(Refusal::Memory)
-        } else {
-            body.delta_since(self.alloc, base)
-        };
-        self.leave(reading);
-        delta
-    }
-
-    fn first_page(
-        &mut self,
-        time: Time,
-        table: Table,
-        low: Key,
-        high: Key,
-        most: u32,
-    ) -> Result<Page, Refusal>
-        ensures list { IsListOf J.kind self.new }
-        ensures seen { IsPrefix self.old self.new }
-        ensures page { GivesSeen page_seen (node_page (replay self.new) time table low high most) result }
-    {
-        let reading = self.enter()?;
-        let page = reading
-            .get()
-            .body
-            .page(self.alloc, time, table, low, high, most);
-        self.leave(reading);
-        page
-    }
-
-    fn marks(&mut self) -> Result<Front, Refusal>
-        ensures list { IsListOf J.kind self.new }
-        ensures seen { IsPrefix self.old self.new }
-        ensures front { GivesOrMemory (node_front (replay self.new)) result }
-    {
-        let reading = self.enter()?;
-        let front = reading.get().body.front();
-        self.leave(reading);
-        front
-    }
-
-    fn all(&mut self) -> Result<Fragment, Refusal>
-        ensures list { IsListOf J.kind self.new }
-        ensures seen { IsPrefix self.old self.new }
-        ensures whole { GivesOrMemory (node_whole (replay self.new)) result }
-    {
-        let reading = self.enter()?;
-        let body = &reading.get().body;
-        let whole = if body.is_cut_above(self.alloc, Time::zero(), self.room) {
-            Err(Refusal::Memory)
-        } else {
-            body.whole(self.alloc)
-        };
-        self.leave(reading);
-        whole
-    }
-
     /// What the node answers to a query at a time, from a list of operations that begins with all that was seen.
     ///
     /// Refusals in order: `Damaged` where the node failed by a conflict, which a guarded one never does; then as a state's:
@@ -304,7 +262,10 @@ impl<J: NodeName> ReaderSeat<J> {
         ensures held { HoldsBack self.new time result }
         ensures primary { IsOfPrimary self.new time query.now result }
     {
-        self.reply(time, query)
+        let reading = self.enter()?;
+        let answer = answer_within(self.alloc, &reading.get().body, time, query, self.room);
+        self.leave(reading);
+        answer
     }
 
     /// What the node answers to a query at its resolved time, with that time: the newest answer that it has, and the
@@ -320,7 +281,10 @@ impl<J: NodeName> ReaderSeat<J> {
         ensures err { IfErr result (λ why. (why ≡ Memory) ⊎ (why ≡ Damaged)) }
         ensures primary { IsLatestOfPrimary self.new query.now result }
     {
-        self.newest(query)
+        let reading = self.enter()?;
+        let latest = latest_within(self.alloc, &reading.get().body, query, self.room);
+        self.leave(reading);
+        latest
     }
 
     /// The first page of the rows of a table with keys from `low` to `high`, both inside, at a time: at most `most` of
@@ -343,7 +307,13 @@ impl<J: NodeName> ReaderSeat<J> {
         ensures sound { J.kind.guarded ≡ true → IfErr result (λ why. why ≢ Damaged) }
         ensures stays { J.kind.guarded ≡ true → IsPageFinal self.new time table low high most result }
     {
-        self.first_page(time, table, low, high, most)
+        let reading = self.enter()?;
+        let page = reading
+            .get()
+            .body
+            .page(self.alloc, time, table, low, high, most);
+        self.leave(reading);
+        page
     }
 
     /// How far the node is, and each of its streams: of a failed node too, since the report says whether it failed.
@@ -399,7 +369,10 @@ impl<J: NodeName> ReaderSeat<J> {
         ensures front { GivesOrMemory (node_front (replay self.new)) result }
         ensures sound { J.kind.guarded ≡ true → IfErr result (λ why. why ≢ Damaged) }
     {
-        self.marks()
+        let reading = self.enter()?;
+        let front = reading.get().body.front();
+        self.leave(reading);
+        front
     }
 
     /// What the node holds and a replica may lack whose resolved time is at least the base.
@@ -415,7 +388,10 @@ impl<J: NodeName> ReaderSeat<J> {
         // A pinned base is too old only where the pin was released.
         ensures held { HoldsBack self.new base result }
     {
-        self.delta(base)
+        let reading = self.enter()?;
+        let delta = delta_within(self.alloc, &reading.get().body, base, self.room);
+        self.leave(reading);
+        delta
     }
 
     /// The node's full snapshot: all that it holds, as a fragment of base 0. Refusals in order: `Damaged`, `Memory`.
@@ -426,7 +402,10 @@ impl<J: NodeName> ReaderSeat<J> {
         ensures whole { GivesOrMemory (node_whole (replay self.new)) result }
         ensures sound { J.kind.guarded ≡ true → IfErr result (λ why. why ≢ Damaged) }
     {
-        self.all()
+        let reading = self.enter()?;
+        let whole = whole_within(self.alloc, &reading.get().body, self.room);
+        self.leave(reading);
+        whole
     }
 
     /// Applies a receipt of the same node: the seat has seen then the longer of the two lists, of which one is a
@@ -440,9 +419,7 @@ impl<J: NodeName> ReaderSeat<J> {
             prefix: told,
             of: _,
         } = receipt;
-        if self.prefix.compare(&told) {
-            self.prefix = told;
-        }
+        take_longer(&mut self.prefix, told);
     }
 
     /// A receipt of all that the seat has seen or got a receipt of: another seat of this node to which it is applied shows
