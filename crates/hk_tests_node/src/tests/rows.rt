@@ -607,6 +607,18 @@ const AFTER: [(Does, Tells); 3] = [
     (Does::Get(5, 3), (0, 0x42, 0)),
 ];
 
+/// Each of the changes, with one request refused.
+fn all_at_last<J: NodeName, R: Wait + Abort, S: Wait + Drop>(
+    rt: &R,
+    game: &mut Game<J, S>,
+    number: usize,
+) -> Result<(), Fail> {
+    for (place, does) in CHANGES.iter().enumerate() {
+        at_last(rt, game, *does, number, (place as u64).saturating_add(2))?;
+    }
+    Ok(())
+}
+
 fn waits<J: NodeName, R: Wait + Abort>(
     rt: &R,
     alloc: Global,
@@ -617,8 +629,6 @@ fn waits<J: NodeName, R: Wait + Abort>(
     requires { list ≡ (J.book, J.kind) }
 {
     let mut game = new_game::<J, R>(rt, alloc, list, settles)?;
-    for (ops, does) in (2u64..).zip(CHANGES) {
-        at_last(rt, &mut game, does, number, ops)?;
-    }
+    all_at_last(rt, &mut game, number)?;
     plays(rt, &mut game, &AFTER)
 }

@@ -118,23 +118,27 @@ fn joins_each<J: NodeName, R: Wait, S: Wait + Drop>(
     Ok(())
 }
 
+/// The resolved time, where the list that was seen determines it, and the body there.
+fn agreed_time<J: NodeName>(seat: &mut ReaderSeat<J>) -> Option<u64> {
+    let Ok((0, readable)) = front(seat) else {
+        return None;
+    };
+    if seat.seen().checked_sub(1) != Some(readable) {
+        return None;
+    }
+    match body(seat, 5, readable) {
+        Ok(found) if u64::from(found) == readable => Some(readable),
+        _ => None,
+    }
+}
+
 /// The list that was seen determines the node's resolved time, and the body at each time.
 fn reads_keys<J: NodeName>(mut seat: ReaderSeat<J>) -> bool {
     for _ in 0..100_000u64 {
-        let Ok((0, readable)) = front(&mut seat) else {
-            return false;
-        };
-        if seat.seen().checked_sub(1) != Some(readable) {
-            return false;
-        }
-        let Ok(found) = body(&mut seat, 5, readable) else {
-            return false;
-        };
-        if u64::from(found) != readable {
-            return false;
-        }
-        if readable == 1000 {
-            return true;
+        match agreed_time(&mut seat) {
+            None => return false,
+            Some(1000) => return true,
+            Some(_) => {}
         }
     }
     true
