@@ -3,13 +3,15 @@ use Rattle.std.specs.Prelude.{◌≡◌, ◌≢◌, ◌⊎◌, ◌<◌, ◌≤�
 use Rattle.std.specs.Coded.{Coded, code_by, coded×, coded_list, coded_option, coded_result, coded_ℕ}
 use Rattle.std.specs.List.{AllByRecursion}
 use Rattle.hk_types.specs.declared.faults.FormFault.{FormFault}
+use Rattle.hk_types.specs.declared.faults.Refusal.{Refusal}
+use Rattle.hk_frames.specs.Framing.{last_answer}
 use Rattle.hk_wire.specs.declared.request.Request.{Request}
 use Rattle.hk_wire.specs.declared.request.Request.TheVariants as asked
 use Rattle.hk_wire.specs.declared.later_request.LaterRequest.TheVariants as later
 use Rattle.hk_wire.specs.declared.reply.Reply.{Reply}
 use Rattle.hk_wire.specs.Requests.{ReadsRequests, AddsRequests}
 use Rattle.hk_session.specs.Said.{refused_text}
-use Rattle.hk_session.specs.Transcript.{May, Answers, Ends, replies_bytes, fault_met}
+use Rattle.hk_session.specs.Transcript.{May, Answers, Ends, replies_bytes, fault_of, fault_met}
 use Rattle.hk_session.specs.declared.ended.Ended.{Ended}
 use Rattle.hk_session.specs.declared.ended.Ended.TheVariants.{Clean, Fault, Memory, ReadFault, WriteFault}
 use Rattle.hk_session.specs.declared.step.Step.{Step}
@@ -186,3 +188,7 @@ Pauses s ready out (steps.Ended WriteFault) = ⊥
 abbrev pub Closes : Option FormFault → List ℕ → List ℕ → Ended → Type 0
 Closes None ready out ended = (ended ≡ Clean) × (out ≡ ready)
 Closes (Some f) ready out ended = ((ended ≡ Fault f) × (out ≡ ready ++ refused_text f)) ⊎ ((ended ≡ Memory) × (out ≡ ready))
+
+-- the same by what the feeder answers at the end
+abbrev pub ClosesBy : Result (Unit {0}) Refusal → List ℕ → List ℕ → Ended → Type 0
+ClosesBy answer ready out ended = (left : Result (List ℕ) FormFault) → answer ≡ last_answer left → Closes (fault_of left) ready out ended

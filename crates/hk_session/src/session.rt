@@ -3,14 +3,14 @@
 ghost use Rattle.std.specs.Prelude.{◌≡◌, ◌≢◌, ◌⊎◌, ◌≤◌, ◌++◌, ℕ, List, [], ◌∷◌, false, length, nat_lt, Ok, Some, None, IfSome, IfNone, OnOk, OnErr};
 ghost use Rattle.hk_session.specs.Said.{refused_text};
 ghost use Rattle.hk_session.specs.Transcript.{fault_of};
-ghost use Rattle.hk_session.specs.Sessions.{AppendsKept, Closes, Continues, HasNoNext, IsStanding, IsWithoutMemory, Pauses, ReadIn, Takes, TakesIn, Turns, awaited, first_awaited};
+ghost use Rattle.hk_session.specs.Sessions.{AppendsKept, Closes, ClosesBy, Continues, HasNoNext, IsStanding, IsWithoutMemory, Pauses, ReadIn, Takes, TakesIn, Turns, awaited, first_awaited};
 
 use crate::ended::Ended;
 use crate::host::Host;
-use crate::sending::put_piece;
+use crate::sending::{put_piece, put_whole};
 use crate::step::Step;
 use hk_types::{FormFault, Refusal, Time};
-use hk_wire::{LaterRequest, Place, Reply, Request, RequestFeeder, encode_reply};
+use hk_wire::{LaterRequest, Place, Reply, Request, RequestFeeder};
 use std::alloc::{AllocError, Global};
 use std::collections::VecDeque;
 use std::marker::Model;
@@ -73,9 +73,23 @@ fn refuse(fault: FormFault, out: &mut Vec<u8>) -> Result<(), AllocError>
     ensures ok { OnOk result (out.new.items ≡ out.old.items ++ refused_text fault) }
     ensures err { OnErr result (out.new.items ≡ out.old.items) }
 {
-    match encode_reply(&Reply::Refused(Refusal::Form(fault)), out) {
-        Ok(()) => Ok(()),
-        Err(_refusal) => Err(AllocError),
+    let reply = Reply::Refused(Refusal::Form(fault));
+    put_whole(&reply, out)
+}
+
+/// What a stream ends with whose feeder ends so. A fault is appended.
+fn close(ended: Result<(), Refusal>, out: &mut Vec<u8>) -> Ended
+    ensures { ClosesBy ended out.old.items out.new.items result }
+{
+    let Err(why) = ended else {
+        return Ended::Clean;
+    };
+    let Refusal::Form(fault) = why else {
+        return Ended::Memory;
+    };
+    match refuse(fault, out) {
+        Ok(()) => Ended::Fault(fault),
+        Err(_e) => Ended::Memory,
     }
 }
 
@@ -294,15 +308,6 @@ impl<const LATEST: u8> Session<LATEST> {
     pub fn finish(self, out: &mut Vec<u8>) -> Ended
         ensures { Closes (fault_of self.entry.left) out.old.items out.new.items result }
     {
-        let Err(why) = self.feeder.finish() else {
-            return Ended::Clean;
-        };
-        let Refusal::Form(fault) = why else {
-            return Ended::Memory;
-        };
-        match refuse(fault, out) {
-            Ok(()) => Ended::Fault(fault),
-            Err(_e) => Ended::Memory,
-        }
+        close(self.feeder.finish(), out)
     }
 }
