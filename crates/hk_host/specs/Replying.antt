@@ -106,6 +106,14 @@ IsFeeding kind old new (asked.Prune horizon) reply = IsNoChange old new reply
 IsFeeding kind old new (asked.Feed items) reply = IsReplyTo kind old new (asked.Feed items) reply
 IsFeeding kind old new (asked.Later request) reply = IsNoChange old new reply
 
+-- such a host replies to a request as the node's does
+abbrev pub IsFed : Request → Type 0
+IsFed request = (kind : NodeKind) (old new : List Op) (reply : ReplyValue) → IsReplyTo kind old new request reply → IsFeeding kind old new request reply
+
+-- or it refuses its kind
+abbrev pub IsUnfed : Request → Type 0
+IsUnfed request = (kind : NodeKind) (old new : List Op) (reply : ReplyValue) → IsNoChange old new reply → IsFeeding kind old new request reply
+
 -- what such a host may do: its seat's list is legal and begins with the one before, and the reply is so
 abbrev pub MayFeed : NodeKind → List Op → Request → Reply → List Op → Type 0
 MayFeed kind old request answer new = (is_legal new ≡ true) × IsPrefix old new × IsFeeding kind old new request (reply_seen answer)

@@ -1,12 +1,7 @@
 //! A host over a running node and one seat of it, through which items come in and nothing else.
 
-ghost use Rattle.std.specs.Prelude.{◌≡◌, true};
-ghost use mathlib.Core.List.{IsPrefix};
-ghost use Rattle.hk_types.specs.declared.faults.FormFault.TheVariants.{BadKind};
-ghost use Rattle.hk_types.specs.declared.faults.Refusal.TheVariants.{Form};
-ghost use Rattle.hk_wire.specs.Replies.{Refused, reply_seen};
-ghost use Rattle.hk_oplog.specs.Replay.{is_legal};
-ghost use Rattle.hk_host.specs.Replying.{MayFeed};
+ghost use Rattle.std.specs.Prelude.{◌≡◌, true, false};
+ghost use Rattle.hk_host.specs.Replying.{IsFed, IsUnfed, MayFeed};
 
 use crate::node_host::NodeHost;
 use hk_delta::Fragment;
@@ -19,6 +14,18 @@ use hk_wire::{Reply, Request};
 use std::marker::Model;
 use std::sync::Wait;
 use std::thread::Threads;
+
+/// Whether a request has a meaning for a feeder's connection: the others are refused.
+fn is_fed(request: &Request) -> bool
+    ensures fed { result ≡ true → IsFed request.now }
+    ensures unfed { result ≡ false → IsUnfed request.now }
+{
+    match request {
+        Request::JoinThis(_) | Request::MergeThis(_) | Request::Later(_) => false,
+        Request::Prune { .. } => false,
+        _ => true,
+    }
+}
 
 /// A host over a running node and one seat of it, through which items come in and nothing else: what a feeder's connection has.
 /// Contracts see it as the list of operations that the seat has seen or got a receipt of.
@@ -58,14 +65,6 @@ impl<'a, J: NodeName, N: Wait + Drop, R: Threads + Wait + Sync> FeedHost<'a, J, 
     {
         self.inner.into_seat()
     }
-
-    /// The reply to a request that has no meaning here, which is dropped.
-    fn no_kind<C: Drop>(&self, asked: C) -> Reply
-        ensures legal { is_legal self.now ≡ true }
-        ensures told { reply_seen result ≡ Refused (Form BadKind) }
-    {
-        self.inner.reads.no_kind(asked)
-    }
 }
 
 impl<'a, J: NodeName, N: Wait + Drop, R: Threads + Wait + Sync> Host for FeedHost<'a, J, N, R> {
@@ -76,12 +75,10 @@ impl<'a, J: NodeName, N: Wait + Drop, R: Threads + Wait + Sync> Host for FeedHos
     ghost ready = { λ _. IsSync R.row };
 
     fn answer(&mut self, request: Request) -> Reply {
-        match request {
-            Request::JoinThis(fragment) | Request::MergeThis(fragment) => self.no_kind(fragment),
-            Request::Prune { horizon } => self.no_kind(horizon),
-            Request::Later(later) => self.no_kind(later),
-            other => self.inner.answer(other),
+        if is_fed(&request) {
+            return self.inner.answer(request);
         }
+        self.inner.reads.no_kind(request)
     }
 }
 

@@ -4,16 +4,16 @@ ghost use Rattle.std.specs.Prelude.{◌≡◌, length, IfOk};
 
 use crate::fault::NetFault;
 use crate::node_host::NodeHost;
-use crate::sessions::serve_host;
-use hk_link::{LinkState, PartsBudget};
+use crate::sessions::{serve_parts, serve_plain};
+use hk_link::{LinkState, NodeSide, PartsBudget, PartsHost};
 use hk_node::{Node, NodeName, ReaderSeat};
 use hk_session::{AtOnce, Counted, Ended};
-use std::alloc::Global;
+use std::alloc::{AllocError, Global};
 use std::io::Read;
 use std::net::{Shutdown, TcpListener, TcpStream};
 use std::sync::Wait;
 use std::thread;
-use std::thread::Threads;
+use std::thread::{JoinHandle, Scope, Threads};
 use std::time::Duration;
 
 /// How many pieces of what a peer still sends are read once its session has ended.
@@ -47,31 +47,115 @@ fn drain(stream: &TcpStream) {
     }
 }
 
-/// Runs the session of a connection to its end.
-fn serve_link<J: NodeName, N: Wait + Drop, R: Threads + Wait + Sync>(
-    rt: &R,
+/// Runs the session of a connection over a host: with a budget in both versions, else in version 1.
+fn serve_over<H: NodeSide + Drop>(
     alloc: Global,
-    node: &Node<J, N>,
+    budget: Option<&PartsBudget>,
+    host: H,
+    stream: &TcpStream,
+) -> Ended
+    requires { H.ready host }
+{
+    let mut reader = Counted::new(stream);
+    let mut writer = Counted::new(stream);
+    match budget {
+        Some(budget) => {
+            let link = PartsHost::new(host, LinkState::new(alloc, budget, None));
+            let (ended, _host, _left) = serve_parts(
+                alloc,
+                link,
+                &mut AtOnce,
+                &mut reader,
+                &mut writer,
+            );
+            ended
+        }
+        None => {
+            let (ended, _host) = serve_plain(alloc, host, &mut reader, &mut writer);
+            ended
+        }
+    }
+}
+
+/// Runs the session of a connection to its end.
+fn serve_link<'a, J: NodeName, N: Wait + Drop, R: Threads + Wait + Sync>(
+    rt: &'a R,
+    alloc: Global,
+    node: &'a Node<J, N>,
     budget: Option<&PartsBudget>,
     seat: ReaderSeat<J>,
     stream: TcpStream,
 ) -> Ended {
     // A reply is sent at once; where the system doesn't allow that, replies come later.
     let _at_once = stream.set_nodelay(true);
-    let mut reader = Counted::new(&stream);
-    let mut writer = Counted::new(&stream);
-    let host = NodeHost::new(rt, alloc, node, seat);
-    let kept = budget.map(|budget| LinkState::new(alloc, budget, None));
-    let (ended, _host, _kept) = serve_host(
-        alloc,
-        kept,
-        host,
-        &mut AtOnce,
-        &mut reader,
-        &mut writer,
-    );
+    let ended = serve_over(alloc, budget, NodeHost::new(rt, alloc, node, seat), &stream);
     drain(&stream);
     ended
+}
+
+/// The thread of a connection, or none where it could not be started.
+type LinkThread = Option<JoinHandle<Ended>>;
+
+/// Accepts a connection for each seat, and starts its thread. Returns why not all were accepted.
+fn start_links<
+    's,
+    E,
+    J: NodeName + Send + Sync,
+    N: Wait + Drop + Send + Sync,
+    R: Threads + Wait + Sync,
+>(
+    scope: &Scope<'s, E>,
+    rt: &'s R,
+    alloc: Global,
+    listener: &TcpListener,
+    node: &'s Node<J, N>,
+    budget: Option<&'s PartsBudget>,
+    seats: Vec<ReaderSeat<J>>,
+    links: &mut Vec<LinkThread>,
+) -> Option<NetFault> {
+    for seat in seats {
+        let Ok((stream, _address)) = listener.accept() else {
+            return Some(NetFault::Socket);
+        };
+        let link = scope
+            .spawn(move || serve_link(rt, alloc, node, budget, seat, stream))
+            .ok();
+        if links.push(link).is_err() {
+            return Some(NetFault::Memory);
+        }
+    }
+    None
+}
+
+/// Room for so many ends and threads.
+fn rooms_of(alloc: Global, count: usize) -> Result<(Vec<Ended>, Vec<LinkThread>), AllocError> {
+    let ends = Vec::with_capacity(alloc, count)?;
+    let links = Vec::with_capacity(alloc, count)?;
+    Ok((ends, links))
+}
+
+/// Waits for each thread, and adds how its connection ended. Returns false where memory ran out for that.
+fn join_all<R: Threads>(rt: &R, links: Vec<LinkThread>, ends: &mut Vec<Ended>) -> bool {
+    let mut are_added = true;
+    for link in links {
+        let ended = match link {
+            Some(handle) => handle.join(rt),
+            None => Ended::Memory,
+        };
+        are_added = ends.push(ended).is_ok() && are_added;
+    }
+    are_added
+}
+
+/// All ends, of so many connections.
+fn all_ends(ends: Vec<Ended>, count: usize) -> Result<Vec<Ended>, NetFault>
+    ensures { IfOk result (λ all. length all.items ≡ count) }
+{
+    // True here: each seat had a connection, and each connection an end.
+    if ends.len() == count {
+        return Ok(ends);
+    }
+    Err(NetFault::Memory)
 }
 
 /// Accepts as many connections as there are seats, and runs the session of each, over a `NodeHost`, in a thread of its
@@ -100,46 +184,20 @@ pub fn serve_links<
     ensures { IfOk result (λ ends. length ends.items ≡ length seats.items) }
 {
     let count = seats.len();
-    let mut ends = Vec::with_capacity(alloc, count)?;
-    let mut links = Vec::with_capacity(alloc, count)?;
+    let (mut ends, mut links) = rooms_of(alloc, count)?;
     thread::scope(
         thread::scope_env(),
         rt,
         |scope| -> Result<Vec<Ended>, NetFault>
             ensures { IfOk result (λ ends. length ends.items ≡ count) }
         {
-            let mut fault = None;
-            for seat in seats {
-                match listener.accept() {
-                    Ok((stream, _address)) => {
-                        let link = scope
-                            .spawn(move || serve_link(rt, alloc, node, budget, seat, stream))
-                            .ok();
-                        if links.push(link).is_err() {
-                            fault = Some(NetFault::Memory);
-                            break;
-                        }
-                    }
-                    Err(_error) => {
-                        fault = Some(NetFault::Socket);
-                        break;
-                    }
-                }
-            }
-            for link in links {
-                let ended = match link {
-                    Some(handle) => handle.join(rt),
-                    None => Ended::Memory,
-                };
-                if ends.push(ended).is_err() {
-                    fault = Some(NetFault::Memory);
-                }
+            let fault = start_links(scope, rt, alloc, listener, node, budget, seats, &mut links);
+            if !join_all(rt, links, &mut ends) {
+                return Err(NetFault::Memory);
             }
             match fault {
                 Some(fault) => Err(fault),
-                // True here: each seat had a connection, and each connection an end.
-                None if ends.len() == count => Ok(ends),
-                None => Err(NetFault::Memory),
+                None => all_ends(ends, count),
             }
         },
     )

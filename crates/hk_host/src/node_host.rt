@@ -8,7 +8,7 @@ ghost use Rattle.hk_delta.specs.Gathers.{Gathers};
 ghost use Rattle.hk_types.specs.declared.faults.Refusal.TheVariants.{Unpublished};
 ghost use Rattle.hk_wire.specs.Replies.{reply_seen};
 ghost use Rattle.hk_oplog.specs.declared.op.Op.{Op};
-ghost use Rattle.hk_oplog.specs.declared.op.Op.TheVariants.{Join};
+ghost use Rattle.hk_oplog.specs.declared.op.Op.TheVariants.{Join, Prune as PruneTo};
 ghost use Rattle.hk_node.specs.Changes.{ChangesSome};
 ghost use Rattle.hk_node.specs.Guarded.{TakesSome};
 ghost use Rattle.hk_oplog.specs.NewItems.{new_to};
@@ -190,6 +190,18 @@ impl<'a, J: NodeName, N: Wait + Drop, R: Threads + Wait + Sync> NodeHost<'a, J, 
         }
     }
 
+    /// A prune.
+    fn prune(&mut self, horizon: Time) -> Reply
+        ensures legal { is_legal self.new ≡ true }
+        ensures seen { IsPrefix self.old self.new }
+        ensures told { IsChangeReply J.kind self.old self.new (PruneTo horizon) (reply_seen result) }
+    {
+        match self.node.prune(self.rt, horizon) {
+            Ok((_, receipt)) => self.reply(Ok(receipt)),
+            Err(why) => self.reply(Err(why)),
+        }
+    }
+
     /// The one fragment that items make. A long list is gathered by several workers, which are waited for.
     fn gather(&self, items: &[Item]) -> Result<Fragment, Refusal>
         ensures legal { is_legal self.now ≡ true }
@@ -303,10 +315,7 @@ impl<'a, J: NodeName, N: Wait + Drop, R: Threads + Wait + Sync> Host for NodeHos
                 let answered = self.node.join(self.rt, fragment);
                 self.reply(answered)
             }
-            Request::Prune { horizon } => match self.node.prune(self.rt, horizon) {
-                Ok((_, receipt)) => self.reply(Ok(receipt)),
-                Err(why) => self.reply(Err(why)),
-            },
+            Request::Prune { horizon } => self.prune(horizon),
             other => self.reads.answer(other),
         }
     }

@@ -54,31 +54,3 @@ pub fn serve_parts<'a, H: NodeSide + Drop, I: Read + Drop, O: Write + Drop, W: W
     let (inner, left) = served.end();
     (ended, inner, left)
 }
-
-/// Runs the session of a connection over a host: with what a connection keeps in both versions, else in version 1. Returns how it
-/// ended, the host, and what the next connection begins with.
-pub(crate) fn serve_host<'a, H: NodeSide + Drop, I: Read + Drop, O: Write + Drop, W: Waiter>(
-    alloc: Global,
-    kept: Option<LinkState<'a>>,
-    host: H,
-    waiter: &mut W,
-    reader: &mut Counted<I>,
-    writer: &mut Counted<O>,
-) -> (Ended, H, Option<LinkState<'a>>)
-    requires reader { reader.old.faults ≡ 0 }
-    requires writer { writer.old.faults ≡ 0 }
-    requires ready { H.ready host }
-    ensures seen { IsPrefix (H.side.list host) (H.side.list result.1) }
-{
-    match kept {
-        Some(kept) => {
-            let link = PartsHost::new(host, kept);
-            let (ended, host, left) = serve_parts(alloc, link, waiter, reader, writer);
-            (ended, host, Some(left))
-        }
-        None => {
-            let (ended, host) = serve_plain(alloc, host, reader, writer);
-            (ended, host, None)
-        }
-    }
-}
