@@ -1,6 +1,7 @@
 //! A worker's sockets and connections, and what it does with them beside their turns: nothing of it asks the node.
 
 use crate::link::Link;
+use crate::serving::Tools;
 use crate::shop::Staff;
 use crate::sockets::Accepted;
 use crate::turns::Moment;
@@ -8,13 +9,18 @@ use crate::worker::Worker;
 use hk_doors::Passes;
 use hk_host::{LinkEvent, Teller};
 use hk_session::Ended;
-use mio::{Poll, Token};
+use mio::{Events, Poll, Token};
 use std::alloc::Global;
 use std::rt::Clock;
 use std::sync::Wait;
+use std::thread;
+use std::time::Duration;
 
 /// A change that takes so many milliseconds at a worker for long answers is one with which the node's second copy catches up.
 const LONG_CHANGE: u64 = 20;
+
+/// How many milliseconds pass before a wait that failed is tried again.
+const WAIT_PAUSE: u64 = 100;
 
 /// The sockets that a worker waits for, who is notified, and its connections.
 #[derive(Drop)]
@@ -27,6 +33,45 @@ pub(crate) struct Reactor<'w, 'd, R: Wait + Clock + 'w, const LATEST: u8> {
 }
 
 impl<'w, 'd, R: Wait + Clock + 'w, const LATEST: u8> Reactor<'w, 'd, R, LATEST> {
+    /// That of a worker that begins, with room for what the system says.
+    pub(crate) fn begin(
+        rt: &'w R,
+        staff: &'w Staff<'d>,
+        tools: Tools<'w>,
+    ) -> (Reactor<'w, 'd, R, LATEST>, Events) {
+        let Tools {
+            alloc,
+            number,
+            piece,
+            poll,
+            events,
+            teller,
+        } = tools;
+        // One worker for long answers has the second copy take what the node took before it listened.
+        let behind = if number == staff.short_workers() {
+            Some(0)
+        } else {
+            None
+        };
+        let worker = Worker::new(alloc, number, piece, behind);
+        let reactor = Reactor {
+            rt,
+            staff,
+            poll,
+            teller,
+            worker,
+        };
+        (reactor, events)
+    }
+
+    /// Waits until something happens, or somebody has waited long enough.
+    pub(crate) fn wait(&mut self, events: &mut Events) {
+        let time_out = self.worker.time_out(self.staff.bell.readable());
+        if self.poll.poll(events, time_out).is_err() {
+            thread::sleep(self.rt, Duration::from_millis(WAIT_PAUSE));
+        }
+    }
+
     /// Looks at the clock, which never goes back.
     pub(crate) fn look_at_clock(&mut self) {
         if let Ok(time) = self.rt.monotonic() {

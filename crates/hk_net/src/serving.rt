@@ -2,7 +2,7 @@
 
 ghost use Rattle.std.specs.Prelude.{◌≡◌};
 
-use crate::arrivals::Arrival;
+use crate::arrivals::{Arrival, Inbox};
 use crate::doors::{Door, Way};
 use crate::link::Link;
 use crate::reactor::Reactor;
@@ -11,18 +11,70 @@ use crate::sockets::Accepted;
 use crate::turns::{Moment, Turn};
 use crate::worker::Worker;
 use hk_host::{FeedHost, NodeHost, SeatHost, Teller};
-use hk_link::LinkState;
-use hk_node::{NodeName, ReaderSeat};
+use hk_node::{Node, NodeName, ReaderSeat};
 use mio::{Events, Poll};
 use std::alloc::Global;
 use std::rt::Clock;
 use std::sync::Wait;
-use std::thread;
 use std::thread::Threads;
-use std::time::Duration;
 
-/// How many milliseconds pass before a wait that failed is tried again.
-const WAIT_PAUSE: u64 = 100;
+/// The turn of a connection that may do everything.
+fn turn_open<'a, 'd, J: NodeName, N: Wait + Drop, R: Threads + Wait + Sync, const LATEST: u8>(
+    rt: &'a R,
+    node: &'a Node<J, N>,
+    teller: &'a Teller<'a>,
+    worker: &mut Worker<'d, LATEST>,
+    moment: Moment,
+    link: &mut Link<'d, LATEST>,
+    seat: ReaderSeat<J>,
+) -> (Turn, ReaderSeat<J>) {
+    let host = NodeHost::telling(rt, worker.alloc, node, seat, teller);
+    let (turn, host) = worker.turn(moment, link, host);
+    (turn, host.into_seat())
+}
+
+/// The turn of a connection that sends items, and asks.
+fn turn_feeding<'a, 'd, J: NodeName, N: Wait + Drop, R: Threads + Wait + Sync, const LATEST: u8>(
+    rt: &'a R,
+    node: &'a Node<J, N>,
+    teller: &'a Teller<'a>,
+    worker: &mut Worker<'d, LATEST>,
+    moment: Moment,
+    link: &mut Link<'d, LATEST>,
+    seat: ReaderSeat<J>,
+) -> (Turn, ReaderSeat<J>) {
+    let host = FeedHost::new(NodeHost::telling(rt, worker.alloc, node, seat, teller));
+    let (turn, host) = worker.turn(moment, link, host);
+    (turn, host.into_seat())
+}
+
+/// The turn of a connection that asks.
+fn turn_reading<'d, J: NodeName, const LATEST: u8>(
+    worker: &mut Worker<'d, LATEST>,
+    moment: Moment,
+    link: &mut Link<'d, LATEST>,
+    seat: ReaderSeat<J>,
+) -> (Turn, ReaderSeat<J>) {
+    let (turn, host) = worker.turn(moment, link, SeatHost::new(seat));
+    (turn, host.into_seat())
+}
+
+/// Leaves a connection for a worker, with what this worker's seat has seen. It comes back where that can't be done.
+fn leave_moved<'d, J: NodeName, R: Wait, const LATEST: u8>(
+    rt: &R,
+    inbox: Option<&Inbox<Arrival<'d, J, LATEST>>>,
+    seat: Option<&ReaderSeat<J>>,
+    link: Box<Link<'d, LATEST>, Global>,
+) -> Option<Box<Link<'d, LATEST>, Global>> {
+    let (Some(inbox), Some(seat)) = (inbox, seat) else {
+        return Some(link);
+    };
+    let seen = seat.receipt();
+    match inbox.leave(rt, Arrival::Moved { link, seen }) {
+        Err(Arrival::Moved { link, .. }) => Some(link),
+        Ok(()) | Err(Arrival::Opened { .. }) => None,
+    }
+}
 
 /// A worker at its work: what all threads share, its seat, which has left while a connection has its turn, and its connections.
 #[derive(Drop)]
@@ -50,7 +102,7 @@ impl<
     /// The turn of a connection of a door, over a host of the seat, which is returned.
     fn turn_on(
         &mut self,
-        door: &Door<'_, J, N>,
+        door: &Door<'d, J, N>,
         moment: Moment,
         link: &mut Link<'d, LATEST>,
         seat: ReaderSeat<J>,
@@ -61,34 +113,15 @@ impl<
             worker,
             ..
         } = &mut self.reactor;
-        let Worker {
-            alloc,
-            piece,
-            out,
-            left,
-            ..
-        } = worker;
         match &door.way {
-            Way::Open(node) => {
-                let host = NodeHost::telling(*rt, *alloc, node, seat, teller);
-                let (turn, host) = link.turn(moment, piece, out, host, left);
-                (turn, host.into_seat())
-            }
-            Way::Feeding(node) => {
-                let host = FeedHost::new(NodeHost::telling(*rt, *alloc, node, seat, teller));
-                let (turn, host) = link.turn(moment, piece, out, host, left);
-                (turn, host.into_seat())
-            }
-            Way::Reading => {
-                let host = SeatHost::new(seat);
-                let (turn, host) = link.turn(moment, piece, out, host, left);
-                (turn, host.into_seat())
-            }
+            Way::Open(node) => turn_open(*rt, node, teller, worker, moment, link, seat),
+            Way::Feeding(node) => turn_feeding(*rt, node, teller, worker, moment, link, seat),
+            Way::Reading => turn_reading(worker, moment, link, seat),
         }
     }
 
     /// The turn of a connection of a door.
-    fn turn(&mut self, door: &Door<'_, J, N>, moment: Moment, link: &mut Link<'d, LATEST>) -> Turn {
+    fn turn(&mut self, door: &Door<'d, J, N>, moment: Moment, link: &mut Link<'d, LATEST>) -> Turn {
         let Some(seat) = self.seat.take() else {
             return Turn::Over;
         };
@@ -104,22 +137,19 @@ impl<
     /// Leaves a connection for a worker that gives long answers, with what this worker's seat has seen. Where that can't be done it ends.
     fn hand_over(&mut self, token: usize, link: Box<Link<'d, LATEST>, Global>) {
         let mut link = link;
-        let is_free = self.reactor.lets_leave(&mut link);
-        let worker = self.shop.staff.long_worker(link.place);
-        let inbox = worker.and_then(|it| self.shop.inboxes.get(it));
-        let (Some(worker), Some(inbox), Some(seat), true) = (worker, inbox, &self.seat, is_free)
-        else {
+        if !self.reactor.lets_leave(&mut link) {
             self.reactor.worker.cut(token, link);
             return;
-        };
-        let seen = seat.receipt();
-        match inbox.leave(self.reactor.rt, Arrival::Moved { link, seen }) {
-            Ok(()) => {
+        }
+        let staff = &self.shop.staff;
+        let worker = staff.long_worker(link.place).unwrap_or(usize::MAX);
+        let inbox = self.shop.inboxes.get(worker);
+        match leave_moved(self.reactor.rt, inbox, self.seat.as_ref(), link) {
+            Some(link) => self.reactor.worker.cut(token, link),
+            None => {
                 self.reactor.worker.links.free(token);
-                self.shop.staff.bell.wake(worker);
+                staff.bell.wake(worker);
             }
-            Err(Arrival::Moved { link, .. }) => self.reactor.worker.cut(token, link),
-            Err(Arrival::Opened { .. }) => {}
         }
     }
 
@@ -128,17 +158,21 @@ impl<
         match turn {
             Turn::Over => self.reactor.close(token, link),
             Turn::Moves => self.hand_over(token, link),
-            Turn::Waits => self.reactor.worker.links.put(token, link),
-            Turn::Again => self.reactor.worker.put_listed(token, link),
-            Turn::Freed => {
-                self.reactor.worker.has_freed = true;
-                self.reactor.worker.put_listed(token, link);
-            }
-            Turn::Parks {
-                number,
-                milliseconds,
-            } => self.reactor.worker.park(token, link, number, milliseconds),
+            stays => self.reactor.worker.settle(token, stays, link),
         }
+    }
+
+    /// The turn of the connection under a token, unless it waits for a time.
+    fn turn_of(&mut self, token: usize, link: &mut Link<'d, LATEST>) -> Turn {
+        let Some(door) = self.shop.doors.get(link.door) else {
+            return Turn::Over;
+        };
+        if !self.reactor.begin_turn(token, link) {
+            return Turn::Waits;
+        }
+        let moment = self.reactor.moment(door.way.passes());
+        self.reactor.teller.turn_to(link.place, door.tells_changes);
+        self.turn(door, moment, link)
     }
 
     /// Gives the connection under a token its turn.
@@ -146,16 +180,7 @@ impl<
         let Some(mut link) = self.reactor.worker.links.take(token) else {
             return;
         };
-        let Some(door) = self.shop.doors.get(link.door) else {
-            return;
-        };
-        let turn = if self.reactor.begin_turn(token, &mut link) {
-            let moment = self.reactor.moment(door.way.passes());
-            self.reactor.teller.turn_to(link.place, door.tells_changes);
-            self.turn(door, moment, &mut link)
-        } else {
-            Turn::Waits
-        };
+        let turn = self.turn_of(token, &mut link);
         self.settle(token, turn, link);
     }
 
@@ -174,21 +199,6 @@ impl<
         staff.bell.expect(self.reactor.worker.number, least);
     }
 
-    /// What a connection of a door keeps at first: pins that others left, where it may release them, else nothing.
-    fn first_kept(&mut self, door: &Door<'d, J, N>) -> LinkState<'d> {
-        let left = match door.way {
-            Way::Open(_) => self.reactor.worker.left.pop(),
-            Way::Feeding(_) | Way::Reading => None,
-        };
-        match left {
-            Some(kept) => kept,
-            None => {
-                let staff = &self.shop.staff;
-                LinkState::new(self.reactor.worker.alloc, door.budget, Some(staff.meters))
-            }
-        }
-    }
-
     /// Takes in a connection that was accepted. Where that fails it is closed.
     fn open(&mut self, accepted: Accepted, door: usize, place: usize) {
         let Some(mut link) = self.reactor.opened(accepted, door, place) else {
@@ -196,7 +206,10 @@ impl<
             return;
         };
         if let Some(door) = self.shop.doors.get(door) {
-            link.kept = Some(self.first_kept(door));
+            let may_release = matches!(door.way, Way::Open(_));
+            let staff = &self.shop.staff;
+            let worker = &mut self.reactor.worker;
+            link.kept = Some(worker.first_kept(may_release, door.budget, staff.meters));
         }
         self.reactor.enter(link);
     }
@@ -262,13 +275,16 @@ impl<
     }
 }
 
-/// What a worker begins with: its number, a buffer for what it reads, and room for what the system says.
+/// What a worker begins with: its number, a buffer for what it reads, its sockets, room for what the system says of them, and who is
+/// notified.
 #[derive(Drop)]
-pub(crate) struct Tools {
+pub(crate) struct Tools<'w> {
     pub(crate) alloc: Global,
     pub(crate) number: usize,
     pub(crate) piece: Vec<u8>,
+    pub(crate) poll: Poll,
     pub(crate) events: Events,
+    pub(crate) teller: Teller<'w>,
 }
 
 /// Serves connections without an end, by a worker of this number.
@@ -279,44 +295,15 @@ pub(crate) fn serve_worker<
     N: Wait + Drop,
     R: Threads + Wait + Clock + Sync,
     const LATEST: u8,
->(
-    rt: &'w R,
-    shop: &'w Shop<'d, J, N, LATEST>,
-    poll: Poll,
-    tools: Tools,
-    teller: Teller<'w>,
-    seat: ReaderSeat<J>,
-) {
-    let Tools {
-        alloc,
-        number,
-        piece,
-        mut events,
-    } = tools;
-    // One worker for long answers has the second copy take what the node took before it listened.
-    let behind = if number == shop.staff.short_workers() {
-        Some(0)
-    } else {
-        None
-    };
-    let reactor = Reactor {
-        rt,
-        staff: &shop.staff,
-        poll,
-        teller,
-        worker: Worker::new(alloc, number, piece, behind),
-    };
+>(rt: &'w R, shop: &'w Shop<'d, J, N, LATEST>, tools: Tools<'w>, seat: ReaderSeat<J>) {
+    let (reactor, mut events) = Reactor::begin(rt, &shop.staff, tools);
     let mut serving = Serving {
         shop,
         seat: Some(seat),
         reactor,
     };
     for _ in rt.forever() {
-        let readable = shop.staff.bell.readable();
-        let time_out = serving.reactor.worker.time_out(readable);
-        if serving.reactor.poll.poll(&mut events, time_out).is_err() {
-            thread::sleep(rt, Duration::from_millis(WAIT_PAUSE));
-        }
+        serving.reactor.wait(&mut events);
         serving.round(&events);
     }
 }

@@ -71,18 +71,27 @@ fn inboxes_of<'d, J: NodeName, const LATEST: u8>(
 }
 
 /// What a worker of this number begins with.
-fn tools_of(alloc: Global, number: usize) -> Option<Tools> {
+fn tools_of<'w>(
+    alloc: Global,
+    number: usize,
+    poll: Poll,
+    told: &Sender<(usize, LinkEvent)>,
+    bell: &'w Bell,
+) -> Option<Tools<'w>> {
+    let teller = Teller::new(told, bell).ok()?;
     let piece = Vec::from_elem(alloc, 0u8, PIECE).ok()?;
     let events = Events::with_capacity(alloc, MOST_EVENTS).ok()?;
     Some(Tools {
         alloc,
         number,
         piece,
+        poll,
         events,
+        teller,
     })
 }
 
-/// Starts the thread of a worker. Returns false where it can't be started.
+/// Starts the thread of a worker that has these tools. Returns false where it has none, or can't be started.
 fn start_worker<
     's,
     'd,
@@ -94,22 +103,16 @@ fn start_worker<
 >(
     scope: &Scope<'s, E>,
     rt: &'s R,
-    alloc: Global,
-    number: usize,
     shop: &'s Shop<'d, J, N, LATEST>,
-    poll: Poll,
+    tools: Option<Tools<'s>>,
     seat: ReaderSeat<J>,
-    events: &Sender<(usize, LinkEvent)>,
 ) -> bool {
-    let Ok(teller) = Teller::new(events, &shop.staff.bell) else {
-        return false;
-    };
-    let Some(tools) = tools_of(alloc, number) else {
-        return false;
-    };
-    scope
-        .spawn(move || serve_worker(rt, shop, poll, tools, teller, seat))
-        .is_ok()
+    match tools {
+        Some(tools) => scope
+            .spawn(move || serve_worker(rt, shop, tools, seat))
+            .is_ok(),
+        None => false,
+    }
 }
 
 /// Starts the thread that accepts at a door. Returns false where it can't be started.
@@ -136,8 +139,40 @@ fn start_door<
     }
 }
 
-/// Starts all threads. Returns false where no worker or no door has one.
-fn start_all<
+/// Starts the threads of all workers.
+fn start_workers<
+    's,
+    'd,
+    E,
+    J: NodeName + Send + Sync,
+    N: Wait + Drop + Send + Sync,
+    R: Threads + Wait + Clock + Sync,
+    T: Watch,
+    const LATEST: u8,
+>(
+    rt: &'s R,
+    alloc: Global,
+    scope: &Scope<'s, E>,
+    shop: &'s Shop<'d, J, N, LATEST>,
+    polls: Vec<Poll>,
+    seats: Vec<ReaderSeat<J>>,
+    events: &Sender<(usize, LinkEvent)>,
+    watch: &mut T,
+) {
+    let mut number = 0usize;
+    for (poll, seat) in polls.into_iter().zip(seats.into_iter()) {
+        let tools = tools_of(alloc, number, poll, events, &shop.staff.bell);
+        if start_worker(scope, rt, shop, tools, seat) {
+            shop.staff.note_running(number);
+        } else {
+            watch.told(number, LinkEvent::NotStarted);
+        }
+        number = number.saturating_add(1);
+    }
+}
+
+/// Starts the threads of all doors. Returns false where no door has one.
+fn start_doors<
     's,
     'd,
     E,
@@ -149,22 +184,10 @@ fn start_all<
 >(
     scope: &Scope<'s, E>,
     rt: &'s R,
-    alloc: Global,
     shop: &'s Shop<'d, J, N, LATEST>,
-    polls: Vec<Poll>,
-    seats: Vec<ReaderSeat<J>>,
     events: &Sender<(usize, LinkEvent)>,
     watch: &mut T,
 ) -> bool {
-    let mut number = 0usize;
-    for (poll, seat) in polls.into_iter().zip(seats.into_iter()) {
-        if start_worker(scope, rt, alloc, number, shop, poll, seat, events) {
-            shop.staff.note_running(number);
-        } else {
-            watch.told(number, LinkEvent::NotStarted);
-        }
-        number = number.saturating_add(1);
-    }
     let mut is_open = false;
     for door in 0..shop.doors.len() {
         if start_door(scope, rt, door, shop, events) {
@@ -173,7 +196,7 @@ fn start_all<
             watch.told(door, LinkEvent::NotStarted);
         }
     }
-    is_open && shop.staff.short_worker(0).is_some()
+    is_open
 }
 
 /// Starts all threads, and hands on what happens.
@@ -200,9 +223,10 @@ fn serve_shop<
         |scope| -> Result<(), NetFault>
             requires { IsSend J.row × IsSync J.row × IsSend N.row × IsSync N.row × IsSync R.row }
         {
-            let is_started = start_all(scope, rt, alloc, shop, polls, seats, &events, watch);
+            start_workers(rt, alloc, scope, shop, polls, seats, &events, watch);
+            let is_open = start_doors(scope, rt, shop, &events, watch);
             drop(events);
-            if !is_started {
+            if !is_open || shop.staff.short_worker(0).is_none() {
                 return Err(NetFault::Memory);
             }
             hand_on(rt, &told, watch);

@@ -3,8 +3,9 @@
 use crate::doors::Limits;
 use crate::link::{Link, Readiness};
 use crate::links::Links;
+use crate::turns::{Moment, Turn};
 use crate::waiting::{Awaited, Waiting};
-use hk_link::LinkState;
+use hk_link::{LinkState, Meters, NodeSide, PartsBudget};
 use hk_session::Ended;
 use mio::Events;
 use std::alloc::Global;
@@ -61,6 +62,32 @@ impl<'d, const LATEST: u8> Worker<'d, LATEST> {
             is_timed: false,
             has_freed: false,
             behind,
+        }
+    }
+
+    /// The turn of a connection over a host of its seat, which is returned.
+    pub(crate) fn turn<H: NodeSide + Drop>(
+        &mut self,
+        moment: Moment,
+        link: &mut Link<'d, LATEST>,
+        host: H,
+    ) -> (Turn, H)
+        requires { H.ready host }
+    {
+        link.turn(moment, &mut self.piece, &mut self.out, host, &mut self.left)
+    }
+
+    /// What a connection keeps at first: pins that others left, where it may release them, else nothing.
+    pub(crate) fn first_kept(
+        &mut self,
+        may_release: bool,
+        budget: &'d PartsBudget,
+        meters: &'d Meters<'d>,
+    ) -> LinkState<'d> {
+        let left = if may_release { self.left.pop() } else { None };
+        match left {
+            Some(kept) => kept,
+            None => LinkState::new(self.alloc, budget, Some(meters)),
         }
     }
 
@@ -166,6 +193,23 @@ impl<'d, const LATEST: u8> Worker<'d, LATEST> {
     pub(crate) fn put_listed(&mut self, token: usize, link: Box<Link<'d, LATEST>, Global>) {
         self.links.put(token, link);
         self.links.list(token);
+    }
+
+    /// Puts a connection that stays under its token after its turn, as it wants.
+    pub(crate) fn settle(&mut self, token: usize, turn: Turn, link: Box<Link<'d, LATEST>, Global>) {
+        if let Turn::Parks {
+            number,
+            milliseconds,
+        } = turn
+        {
+            self.park(token, link, number, milliseconds);
+            return;
+        }
+        self.has_freed = self.has_freed || turn == Turn::Freed;
+        self.links.put(token, link);
+        if turn != Turn::Waits {
+            self.links.list(token);
+        }
     }
 
     /// Ends a connection as it is, at its next turn.
