@@ -9,7 +9,7 @@ use hk_cli_commands::Output;
 use hk_cli_input::Stop;
 use hk_cli_reasons::Place;
 use hk_net::{NetFault, PartsBudget, serve_links};
-use hk_node::{NewList, NodeName, start};
+use hk_node::{NewList, Node, NodeName, ReaderSeat, start};
 use hk_session::Ended;
 use hk_types::{Config, Links, Refusal};
 use std::alloc::{AllocError, Global};
@@ -87,6 +87,55 @@ pub(crate) fn new_list(config: Config, is_guarded: bool) -> NewList {
     }
 }
 
+/// Serves connections to a node at a listener, and returns how each ended.
+fn served<J: NodeName + Send + Sync, R>(
+    rt: &R,
+    alloc: Global,
+    listener: &TcpListener,
+    node: &Node<J, &R>,
+    parts_bytes: Option<u64>,
+    seats: Vec<ReaderSeat<J>>,
+) -> Result<Vec<Ended>, Stop>
+where
+    R: Net<Listener = TcpListener, Stream = TcpStream> + Threads + Wait + Sync,
+{
+    let budget = budget_of(alloc, parts_bytes)?;
+    serve_links(rt, alloc, listener, node, budget.as_ref(), seats).map_err(stop_of)
+}
+
+/// Prints that connections can be opened.
+fn tell_listening<W: Write, E: Write>(
+    listener: &TcpListener,
+    port: u16,
+    output: &mut Output<'_, W, E>,
+) -> Result<(), Stop> {
+    output.print(&Notice::Listening(port_of(listener, port)))?;
+    output.flush()
+}
+
+/// Serves connections at a listener to a new node of this list.
+fn serve_at<
+    J: NodeName + Send + Sync,
+    R: Net<Listener = TcpListener, Stream = TcpStream> + Threads + Wait + Sync,
+    W: Write,
+    E: Write,
+>(
+    rt: &R,
+    alloc: Global,
+    listener: &TcpListener,
+    port: u16,
+    list: NewList,
+    links: Links,
+    parts_bytes: Option<u64>,
+    output: &mut Output<'_, W, E>,
+) -> Result<Vec<Ended>, Stop>
+    requires { list ≡ (J.book, J.kind) }
+{
+    let (node, seats) = start::<J, &R>(rt, alloc, list, links.count())?;
+    tell_listening(listener, port, output)?;
+    served(rt, alloc, listener, &node, parts_bytes, seats)
+}
+
 /// Serves the connections to a new node of this list.
 fn serve_list<
     J: NodeName + Send + Sync,
@@ -106,12 +155,16 @@ fn serve_list<
     ensures { IfOk result (λ status. status ≤ 1) }
 {
     let listener = listener_of(rt, Ipv4Addr::LOCALHOST, port, output)?;
-    let (node, seats) = start::<J, &R>(rt, alloc, list, links.count())?;
-    output.print(&Notice::Listening(port_of(&listener, port)))?;
-    output.flush()?;
-    let budget = budget_of(alloc, parts_bytes)?;
-    let served = serve_links(rt, alloc, &listener, &node, budget.as_ref(), seats);
-    let ends = served.map_err(stop_of)?;
+    let ends = serve_at::<J, R, W, E>(
+        rt,
+        alloc,
+        &listener,
+        port,
+        list,
+        links,
+        parts_bytes,
+        output,
+    )?;
     print_ends(&ends, output)
 }
 

@@ -39,16 +39,6 @@ const HERE: Origin = Origin {
     asked: RequestContext::Nothing,
 };
 
-/// The node, as it takes what others have: by the host of a connection that may do everything. It answers the requests that give it
-/// a snapshot, of which the last, by which it takes all, is kept until the input ended well.
-#[derive(Drop)]
-struct Own<'n, 'b, J: NodeName, N: Wait + Drop, R: Threads + Wait + Sync> {
-    host: PartsHost<'b, NodeHost<'n, J, N, R>>,
-    last: Option<Request>,
-    /// Why the first was refused that was.
-    refused: Option<Refusal>,
-}
-
 /// Whether a request is the last of a snapshot's.
 fn is_last(request: &Request) -> bool {
     matches!(
@@ -74,6 +64,74 @@ fn stop_of(ended: Ended) -> Option<Stop> {
     }
 }
 
+/// What came of a snapshot.
+#[derive(Drop)]
+struct Taking {
+    /// The last of its requests, by which the node takes all: it is kept until the input ended well.
+    last: Option<Request>,
+    /// Why the first was refused that was.
+    refused: Option<Refusal>,
+}
+
+impl Taking {
+    /// Whether the node answers a request at once: a chunk, unless the last request came before, or one was refused.
+    fn passes(&self, request: &Request) -> bool {
+        self.refused.is_none() && self.last.is_none() && is_part(request)
+    }
+
+    /// Keeps the last request; any other is refused.
+    fn keep(&mut self, request: Request) -> Reply {
+        if self.refused.is_some() || self.last.is_some() || !is_last(&request) {
+            return Reply::Refused(BAD_KIND);
+        }
+        self.last = Some(request);
+        Reply::Done { ops: 0 }
+    }
+
+    /// Notes why a reply refuses its request, if it does.
+    fn note(&mut self, reply: &Reply) {
+        self.refused = self.refused.or(refusal_of(reply));
+    }
+
+    /// The last request of an input that ended so; else why nothing is taken of it.
+    fn ended(&mut self, ended: Ended) -> Result<Request, Stop> {
+        if let Some(why) = self.refused {
+            return Err(Stop::RefusedAt(why, HERE));
+        }
+        if let Some(stop) = stop_of(ended) {
+            return Err(stop);
+        }
+        match mem::take(&mut self.last) {
+            Some(request) => Ok(request),
+            None => Err(Stop::Refused(Refusal::Form(FormFault::Truncated))),
+        }
+    }
+}
+
+/// That a reply refuses nothing; else why it does.
+fn granted(reply: &Reply) -> Result<(), Stop> {
+    match refusal_of(reply) {
+        Some(why) => Err(Stop::RefusedAt(why, HERE)),
+        None => Ok(()),
+    }
+}
+
+/// The range of readable times that a reply gives.
+fn front_of(reply: Reply) -> Result<Front, Stop> {
+    match reply {
+        Reply::Front(front) => Ok(front),
+        _none => Err(Stop::Refused(BAD_KIND)),
+    }
+}
+
+/// The node, as it takes what others have: by the host of a connection that may do everything. It answers the requests that give it
+/// a snapshot.
+#[derive(Drop)]
+struct Own<'n, 'b, J: NodeName, N: Wait + Drop, R: Threads + Wait + Sync> {
+    host: PartsHost<'b, NodeHost<'n, J, N, R>>,
+    taking: Taking,
+}
+
 impl<'n, 'b, J: NodeName, N: Wait + Drop, R: Threads + Wait + Sync> Own<'n, 'b, J, N, R> {
     /// The node by a host of it, with nothing of what came before.
     fn new(
@@ -84,69 +142,33 @@ impl<'n, 'b, J: NodeName, N: Wait + Drop, R: Threads + Wait + Sync> Own<'n, 'b, 
         let kept = LinkState::new(alloc, budget, None);
         Own {
             host: PartsHost::new(host, kept),
-            last: None,
-            refused: None,
+            taking: Taking {
+                last: None,
+                refused: None,
+            },
         }
     }
 
-    /// The host again. What came of a snapshot that wasn't taken is dropped.
-    fn into_host(self) -> NodeHost<'n, J, N, R> {
+    /// The seat of the host again. What came of a snapshot that wasn't taken is dropped.
+    fn into_seat(self) -> ReaderSeat<J> {
         let (host, _kept) = self.host.end();
-        host
+        host.into_seat()
+    }
+
+    /// What the node replies. (Each function that asks a host of connections costs much to prove, so this one does alone.)
+    fn ask(&mut self, request: Request) -> Reply {
+        self.host.answer(request)
     }
 
     /// Its range of readable times.
     fn front(&mut self) -> Result<Front, Stop> {
-        match self.host.answer(Request::Front) {
-            Reply::Front(front) => Ok(front),
-            _none => Err(Stop::Refused(BAD_KIND)),
-        }
-    }
-
-    /// Its resolved time.
-    fn resolved(&mut self) -> Result<Time, Stop> {
-        let front = self.front()?;
-        Ok(front.readable)
-    }
-
-    /// Takes a chunk, or keeps the last request.
-    fn given(&mut self, request: Request) -> Reply
-        requires { IsSync R.row }
-    {
-        if self.refused.is_some() || self.last.is_some() {
-            return Reply::Refused(BAD_KIND);
-        }
-        if is_part(&request) {
-            return self.host.answer(request);
-        }
-        if !is_last(&request) {
-            return Reply::Refused(BAD_KIND);
-        }
-        self.last = Some(request);
-        Reply::Done { ops: 0 }
-    }
-
-    /// Answers the last request.
-    fn take_last(&mut self) -> Result<(), Stop> {
-        let Some(request) = mem::take(&mut self.last) else {
-            return Err(Stop::Refused(Refusal::Form(FormFault::Truncated)));
-        };
-        let reply = self.host.answer(request);
-        match refusal_of(&reply) {
-            Some(why) => Err(Stop::RefusedAt(why, HERE)),
-            None => Ok(()),
-        }
+        front_of(self.ask(Request::Front))
     }
 
     /// Answers the last request, where the input ended well.
     fn finish(&mut self, ended: Ended) -> Result<(), Stop> {
-        if let Some(why) = self.refused {
-            return Err(Stop::RefusedAt(why, HERE));
-        }
-        match stop_of(ended) {
-            Some(stop) => Err(stop),
-            None => self.take_last(),
-        }
+        let request = self.taking.ended(ended)?;
+        granted(&self.ask(request))
     }
 
     /// Takes the snapshot that an input has: all of it, or nothing.
@@ -164,10 +186,12 @@ impl<J: NodeName, N: Wait + Drop, R: Threads + Wait + Sync> Host for Own<'_, '_,
     ghost ready = { λ _. IsSync R.row };
 
     fn answer(&mut self, request: Request) -> Reply {
-        let reply = self.given(request);
-        if let Some(why) = refusal_of(&reply) {
-            self.refused = self.refused.or(Some(why));
-        }
+        let reply = if self.taking.passes(&request) {
+            self.ask(request)
+        } else {
+            self.taking.keep(request)
+        };
+        self.taking.note(&reply);
         reply
     }
 }
@@ -236,13 +260,19 @@ where
     R: Net<Listener = TcpListener, Stream = TcpStream> + Clock + Alloc<A = Global>,
     R: Threads + Wait + Sync,
 {
-    let base = own.resolved()?;
+    let front = own.front()?;
     let mut frames = Vec::new(rt.alloc());
-    if !is_fetched(rt, place, base, &mut frames, words) {
+    if !is_fetched(rt, place, front.readable, &mut frames, words) {
         return Ok(false);
     }
     own.take_input(rt.alloc(), frames.as_slice())?;
     Ok(true)
+}
+
+/// Adds in words why a file can't be opened.
+fn put_unopened(alloc: Global, error: &io::Error, words: &mut Vec<u8>) -> Result<(), AllocError> {
+    let line = format!(in alloc; "can't open it: {error}\n")?;
+    words.extend_from_slice(line.as_bytes())
 }
 
 /// Has the node take the snapshot of the file of this name. `false` where why not is in the words already.
@@ -258,8 +288,7 @@ fn take_file<J: NodeName, N: Wait + Drop, R: Threads + Wait + Sync + Files + All
             Ok(true)
         }
         Err(error) => {
-            let line = format!(in rt.alloc(); "can't open it: {error}\n")?;
-            words.extend_from_slice(line.as_bytes())?;
+            put_unopened(rt.alloc(), &error, words)?;
             Ok(false)
         }
     }
@@ -305,13 +334,35 @@ fn tell_taken<C: Clock, W: Write, E: Write>(
     Ok(())
 }
 
-/// Has the node of a host take something, and adds in words what came of it. Returns the host, and whether it was taken.
-fn taken_by<'n, J: NodeName, N: Wait + Drop, R>(
+/// The same, with why it stopped in words.
+fn is_taken<J: NodeName, N: Wait + Drop, R>(
     rt: &R,
     source: Source<'_>,
-    host: NodeHost<'n, J, N, R>,
+    own: &mut Own<'_, '_, J, N, R>,
     words: &mut Vec<u8>,
-) -> (NodeHost<'n, J, N, R>, bool)
+) -> bool
+where
+    R: Net<Listener = TcpListener, Stream = TcpStream> + Clock + Files + Alloc<A = Global>,
+    R: Threads + Wait + Sync,
+{
+    match take_source(rt, source, own, words) {
+        Ok(is_taken) => is_taken,
+        Err(stop) => {
+            explain(rt.alloc(), stop, words);
+            false
+        }
+    }
+}
+
+/// Has a node take something by a seat of it, which is there again after, and adds in words what came of it. Returns whether it was
+/// taken.
+fn taken_by<J: NodeName, N: Wait + Drop, R>(
+    rt: &R,
+    source: Source<'_>,
+    node: &Node<J, N>,
+    seat: &mut Option<ReaderSeat<J>>,
+    words: &mut Vec<u8>,
+) -> bool
 where
     R: Net<Listener = TcpListener, Stream = TcpStream> + Clock + Files + Alloc<A = Global>,
     R: Threads + Wait + Sync,
@@ -319,97 +370,80 @@ where
     // Nobody else is served yet.
     let Ok(budget) = PartsBudget::new(rt.alloc(), u64::MAX) else {
         explain(rt.alloc(), Stop::Refused(Refusal::Memory), words);
-        return (host, false);
+        return false;
     };
+    let Some(reader) = mem::take(seat) else {
+        return false;
+    };
+    let host = NodeHost::new(rt, rt.alloc(), node, reader);
     let mut own = Own::new(rt.alloc(), host, &budget);
-    let is_taken = match take_source(rt, source, &mut own, words) {
-        Ok(is_taken) => is_taken,
-        Err(stop) => {
-            explain(rt.alloc(), stop, words);
-            false
-        }
-    };
-    (own.into_host(), is_taken)
+    let is_taken = is_taken(rt, source, &mut own, words);
+    *seat = Some(own.into_seat());
+    is_taken
 }
 
 /// The same, and prints what came of it.
-fn taken_and_told<'n, J: NodeName, N: Wait + Drop, R, W: Write, E: Write>(
+fn taken_and_told<J: NodeName, N: Wait + Drop, R, W: Write, E: Write>(
     rt: &R,
     heads: &Heads<'_, R>,
     source: Source<'_>,
-    host: NodeHost<'n, J, N, R>,
+    node: &Node<J, N>,
+    seat: &mut Option<ReaderSeat<J>>,
     output: &mut Output<'_, W, E>,
-) -> (NodeHost<'n, J, N, R>, bool)
+) -> bool
 where
     R: Net<Listener = TcpListener, Stream = TcpStream> + Clock + Files + Alloc<A = Global>,
     R: Threads + Wait + Sync,
 {
     let mut words = Vec::new(rt.alloc());
-    let (host, is_taken) = taken_by(rt, source, host, &mut words);
+    let is_taken = taken_by(rt, source, node, seat, &mut words);
     let _told = tell_taken(rt.alloc(), heads, is_taken, source, &words, output);
-    (host, is_taken)
+    is_taken
 }
 
-/// Has the node of a host take what the first of these nodes has that gives something. Returns the host, and whether one did.
-fn taken_of_first<'n, J: NodeName, N: Wait + Drop, R, W: Write, E: Write>(
+/// Has a node take what the first of these nodes has that gives something. Returns whether one did.
+fn taken_of_first<J: NodeName, N: Wait + Drop, R, W: Write, E: Write>(
     rt: &R,
     heads: &Heads<'_, R>,
     sources: &[Option<NodePlace<'_>>],
-    host: NodeHost<'n, J, N, R>,
+    node: &Node<J, N>,
+    seat: &mut Option<ReaderSeat<J>>,
     output: &mut Output<'_, W, E>,
-) -> (NodeHost<'n, J, N, R>, bool)
+) -> bool
 where
     R: Net<Listener = TcpListener, Stream = TcpStream> + Clock + Files + Alloc<A = Global>,
     R: Threads + Wait + Sync,
 {
-    let mut host = host;
     for place in sources {
         if let Some(place) = place {
-            let (next, is_taken) = taken_and_told(rt, heads, Source::Node(*place), host, output);
-            host = next;
-            if is_taken {
-                return (host, true);
+            if taken_and_told(rt, heads, Source::Node(*place), node, seat, output) {
+                return true;
             }
         }
     }
-    (host, false)
+    false
 }
 
-/// Has the node of a host take what the file of this name has, if one is named. Returns the host, and whether it was taken.
-fn taken_of_file<'n, J: NodeName, N: Wait + Drop, R, W: Write, E: Write>(
+/// Has a node take what it begins with, by a seat of it, which is there again after: first what the file has, then what the first node
+/// that gives something has above that. Each is taken whole or not at all, as over a connection that may do everything, without one; a
+/// line on `errors` says what came of it. Returns whether anything was taken. Cost: that of what is taken, which is kept beside the node
+/// until then.
+pub(crate) fn begin<J: NodeName, N: Wait + Drop, R, W: Write, E: Write>(
     rt: &R,
     heads: &Heads<'_, R>,
-    name: Option<&str>,
-    host: NodeHost<'n, J, N, R>,
-    output: &mut Output<'_, W, E>,
-) -> (NodeHost<'n, J, N, R>, bool)
-where
-    R: Net<Listener = TcpListener, Stream = TcpStream> + Clock + Files + Alloc<A = Global>,
-    R: Threads + Wait + Sync,
-{
-    match name {
-        Some(name) => taken_and_told(rt, heads, Source::File(name), host, output),
-        None => (host, false),
-    }
-}
-
-/// Has a node take what it begins with: first what the file has, then what the first node that gives something has above that. Each is
-/// taken whole or not at all, as over a connection that may do everything, without one; a line on `errors` says what came of it. Returns
-/// the seat, and whether anything was taken. Cost: that of what is taken, which is kept beside the node until then.
-pub(crate) fn begin<'n, J: NodeName, N: Wait + Drop, R, W: Write, E: Write>(
-    rt: &'n R,
-    heads: &Heads<'_, R>,
-    node: &'n Node<J, N>,
-    seat: ReaderSeat<J>,
+    node: &Node<J, N>,
+    seat: &mut Option<ReaderSeat<J>>,
     start: &Start<'_>,
     output: &mut Output<'_, W, E>,
-) -> (ReaderSeat<J>, bool)
+) -> bool
 where
     R: Net<Listener = TcpListener, Stream = TcpStream> + Clock + Files + Alloc<A = Global>,
     R: Threads + Wait + Sync,
 {
-    let host = NodeHost::new(rt, rt.alloc(), node, seat);
-    let (host, has_file) = taken_of_file(rt, heads, start.file, host, output);
-    let (host, has_node) = taken_of_first(rt, heads, &start.sources, host, output);
-    (host.into_seat(), has_file || has_node)
+    let has_file = match start.file {
+        Some(name) => taken_and_told(rt, heads, Source::File(name), node, seat, output),
+        None => false,
+    };
+    let has_node = taken_of_first(rt, heads, &start.sources, node, seat, output);
+    has_file || has_node
 }

@@ -13,7 +13,7 @@ use crate::serve::{budget_of, new_list, stop_of, tell_unproved};
 use crate::starting::begin;
 use crate::texts::{Backlog, MOST_WAITING, Target, Text, TextWriter, write_texts};
 use crossbeam_channel::{Sender, bounded};
-use hk_cli_calls::{Level, OtherPort, OutputForm, PartsLimit, Stay};
+use hk_cli_calls::{Level, OtherPort, OutputForm, PartsLimit, Start, Stay};
 use hk_cli_commands::Output;
 use hk_cli_input::Stop;
 use hk_net::{Door, Limits, Meters, NetFault, PartsBudget, serve_forever};
@@ -27,8 +27,8 @@ use std::net::{Net, SocketAddr, TcpListener, TcpStream};
 use std::os::unix::net::UnixListener;
 use std::rt::Clock;
 use std::sync::Wait;
-use std::thread;
 use std::thread::Threads;
+use std::{mem, thread};
 
 /// How many workers give short answers at most: a node has 64 seats, one for each worker, and one to report its front.
 const MOST_WORKERS: usize = 31;
@@ -72,6 +72,23 @@ fn other_listener<R: Net<Listener = TcpListener, Stream = TcpStream>, W: Write, 
     }
 }
 
+/// Opens the further ports and the sockets.
+fn open_others<R, W: Write, E: Write>(
+    rt: &R,
+    stay: &Stay<'_>,
+    listeners: &mut Listeners,
+    output: &mut Output<'_, W, E>,
+) -> Result<(), Stop>
+where
+    R: Net<Listener = TcpListener, Stream = TcpStream> + Files + Alloc<A = Global>,
+{
+    listeners.feeding = other_listener(rt, stay, stay.feeding, output)?;
+    listeners.reading = other_listener(rt, stay, stay.reading, output)?;
+    listeners.socket = socket_listener(rt, stay.socket, output)?;
+    listeners.read_socket = socket_listener(rt, stay.read_socket, output)?;
+    Ok(())
+}
+
 /// The listeners of all ports and sockets.
 fn listeners_of<R, W: Write, E: Write>(
     rt: &R,
@@ -81,18 +98,15 @@ fn listeners_of<R, W: Write, E: Write>(
 where
     R: Net<Listener = TcpListener, Stream = TcpStream> + Files + Alloc<A = Global>,
 {
-    let open = many_listener_of(rt, stay.address, stay.port, output)?;
-    let feeding = other_listener(rt, stay, stay.feeding, output)?;
-    let reading = other_listener(rt, stay, stay.reading, output)?;
-    let socket = socket_listener(rt, stay.socket, output)?;
-    let read_socket = socket_listener(rt, stay.read_socket, output)?;
-    Ok(Listeners {
-        open,
-        feeding,
-        reading,
-        socket,
-        read_socket,
-    })
+    let mut listeners = Listeners {
+        open: many_listener_of(rt, stay.address, stay.port, output)?,
+        feeding: None,
+        reading: None,
+        socket: None,
+        read_socket: None,
+    };
+    open_others(rt, stay, &mut listeners, output)?;
+    Ok(listeners)
 }
 
 /// How many connections a further port serves at once.
@@ -136,6 +150,82 @@ impl Budgets {
     }
 }
 
+/// Whether each change of a connection is reported.
+fn are_changes_told(stay: &Stay<'_>) -> bool {
+    stay.report_changes > 0 || stay.level == Level::Changes
+}
+
+/// Adds a door, of whose connections each change is reported too where that is asked for.
+fn add_door<'d, J: NodeName, N: Wait + Drop>(
+    stay: &Stay<'_>,
+    door: Door<'d, J, N>,
+    doors: &mut Vec<Door<'d, J, N>>,
+) -> Result<(), AllocError> {
+    let door = if are_changes_told(stay) {
+        door.with_changes()
+    } else {
+        door
+    };
+    doors.push(door)?;
+    Ok(())
+}
+
+/// Adds the doors of a node's ports.
+fn add_ports<'d, J: NodeName, N: Wait + Drop>(
+    node: &'d Node<J, N>,
+    stay: &Stay<'_>,
+    listeners: &'d Listeners,
+    budgets: &'d Budgets,
+    doors: &mut Vec<Door<'d, J, N>>,
+) -> Result<(), AllocError> {
+    let links = usize::from(stay.links);
+    let others = &budgets.others;
+    add_door(
+        stay,
+        Door::open(&listeners.open, node, links, others),
+        doors,
+    )?;
+    if let Some(listener) = &listeners.feeding {
+        let links = links_of(stay.feeding);
+        add_door(stay, Door::feeding(listener, node, links, others), doors)?;
+    }
+    if let Some(listener) = &listeners.reading {
+        let links = links_of(stay.reading);
+        add_door(
+            stay,
+            Door::reading(listener, links, budgets.of_readers()),
+            doors,
+        )?;
+    }
+    Ok(())
+}
+
+/// Adds the doors of its sockets.
+fn add_sockets<'d, J: NodeName, N: Wait + Drop>(
+    node: &'d Node<J, N>,
+    stay: &Stay<'_>,
+    listeners: &'d Listeners,
+    budgets: &'d Budgets,
+    doors: &mut Vec<Door<'d, J, N>>,
+) -> Result<(), AllocError> {
+    let links = usize::from(stay.links);
+    if let Some(listener) = &listeners.socket {
+        add_door(
+            stay,
+            Door::open_unix(listener, node, links, &budgets.others),
+            doors,
+        )?;
+    }
+    if let Some(listener) = &listeners.read_socket {
+        add_door(
+            stay,
+            Door::reading_unix(listener, links, budgets.of_readers()),
+            doors,
+        )?;
+    }
+    Ok(())
+}
+
 /// The doors of a node: that of its port, and those of the further ports and sockets that there are.
 fn doors_of<'d, J: NodeName, N: Wait + Drop>(
     alloc: Global,
@@ -144,40 +234,10 @@ fn doors_of<'d, J: NodeName, N: Wait + Drop>(
     listeners: &'d Listeners,
     budgets: &'d Budgets,
 ) -> Result<Vec<Door<'d, J, N>>, AllocError> {
-    let links = usize::from(stay.links);
-    let (others, readers) = (&budgets.others, budgets.of_readers());
     let mut doors = Vec::new(alloc);
-    doors.push(Door::open(&listeners.open, node, links, others))?;
-    if let Some(listener) = &listeners.feeding {
-        let links = links_of(stay.feeding);
-        doors.push(Door::feeding(listener, node, links, others))?;
-    }
-    if let Some(listener) = &listeners.reading {
-        doors.push(Door::reading(listener, links_of(stay.reading), readers))?;
-    }
-    if let Some(listener) = &listeners.socket {
-        doors.push(Door::open_unix(listener, node, links, others))?;
-    }
-    if let Some(listener) = &listeners.read_socket {
-        doors.push(Door::reading_unix(listener, links, readers))?;
-    }
-    furnished(alloc, doors, stay)
-}
-
-/// The same doors, of whose connections each change is reported too where that is asked for.
-fn furnished<'d, J: NodeName, N: Wait + Drop>(
-    alloc: Global,
-    doors: Vec<Door<'d, J, N>>,
-    stay: &Stay<'_>,
-) -> Result<Vec<Door<'d, J, N>>, AllocError> {
-    if stay.report_changes == 0 && stay.level != Level::Changes {
-        return Ok(doors);
-    }
-    let mut told = Vec::with_capacity(alloc, doors.len())?;
-    for door in doors {
-        told.push(door.with_changes())?;
-    }
-    Ok(told)
+    add_ports(node, stay, listeners, budgets, &mut doors)?;
+    add_sockets(node, stay, listeners, budgets, &mut doors)?;
+    Ok(doors)
 }
 
 /// How many workers give short answers, and as many long ones: so many as are asked for, or as there are processors.
@@ -205,12 +265,22 @@ fn seats_wanted(workers: usize, stay: &Stay<'_>) -> usize
     workers + workers + reporter
 }
 
+/// What a node found as it opened.
+#[derive(Clone, Copy)]
+struct Opened {
+    /// Its port, which the system may have chosen.
+    port: u16,
+    /// How many bytes all connections keep at most for messages of version 2, where these are answered.
+    parts_bytes: Option<u64>,
+}
+
 /// Prints that connections can be opened, and to which ports: a line for each.
 fn tell_ports<W: Write, E: Write>(
     stay: &Stay<'_>,
+    port: u16,
     output: &mut Output<'_, W, E>,
 ) -> Result<(), Stop> {
-    output.print(&Notice::Listening(stay.port))?;
+    output.print(&Notice::Listening(port))?;
     if let Some(feeding) = stay.feeding {
         output.print(&Notice::Feeding(feeding.port))?;
     }
@@ -235,30 +305,41 @@ fn put_other(
     Ok(())
 }
 
-/// Prints in one line what a node opened.
-fn tell_opened<W: Write, E: Write>(
-    alloc: Global,
+/// Adds what a node opened.
+fn put_opened(
     config: Config,
     stay: &Stay<'_>,
-    parts_bytes: Option<u64>,
-    output: &mut Output<'_, W, E>,
-) -> Result<(), Stop> {
-    let address = SocketAddr::from((stay.address, stay.port));
+    opened: Opened,
+    out: &mut String,
+) -> Result<(), AllocError> {
+    let address = SocketAddr::from((stay.address, opened.port));
     let links = stay.links;
-    let mut line = format!(in alloc; "listening on {address} for {links} connections")?;
-    put_other(stay, "feeding", stay.feeding, &mut line)?;
-    put_other(stay, "reading", stay.reading, &mut line)?;
+    write!(out, "listening on {address} for {links} connections")?;
+    put_other(stay, "feeding", stay.feeding, out)?;
+    put_other(stay, "reading", stay.reading, out)?;
     let (log, streams) = (config.log(), config.streams());
     let guarded = if stay.is_guarded {
         "guarded"
     } else {
         "not guarded"
     };
-    let bytes = parts_bytes.unwrap_or(0);
+    let bytes = opened.parts_bytes.unwrap_or(0);
     writeln!(
-        line,
+        out,
         "; log {log}, streams {streams}, {guarded}, chunks {bytes} bytes"
-    )?;
+    )
+}
+
+/// Prints in one line what a node opened.
+fn tell_opened<W: Write, E: Write>(
+    alloc: Global,
+    config: Config,
+    stay: &Stay<'_>,
+    opened: Opened,
+    output: &mut Output<'_, W, E>,
+) -> Result<(), Stop> {
+    let mut line = String::new(alloc);
+    put_opened(config, stay, opened, &mut line)?;
     output.send(line.as_bytes())
 }
 
@@ -405,7 +486,41 @@ fn serve_writing<
     )
 }
 
-/// Has a node take what it begins with, on one of its seats. It refuses where nothing was taken and something has to be.
+/// Puts a seat back to the others.
+fn put_back<J: NodeName>(
+    seat: Option<ReaderSeat<J>>,
+    seats: &mut Vec<ReaderSeat<J>>,
+) -> Result<(), Stop> {
+    let Some(seat) = seat else {
+        return Ok(());
+    };
+    match seats.push(seat) {
+        Ok(_kept) => Ok(()),
+        Err(_memory) => Err(Stop::Refused(Refusal::Memory)),
+    }
+}
+
+/// Has a node take what it begins with, on one of its seats. Returns whether anything was taken.
+fn take_on_seat<J: NodeName, N: Wait + Drop, R, W: Write, E: Write>(
+    rt: &R,
+    node: &Node<J, N>,
+    stay: &Stay<'_>,
+    start: &Start<'_>,
+    seats: &mut Vec<ReaderSeat<J>>,
+    output: &mut Output<'_, W, E>,
+) -> Result<bool, Stop>
+where
+    R: Net<Listener = TcpListener, Stream = TcpStream> + Clock + Files + Alloc<A = Global>,
+    R: Threads + Wait + Sync,
+{
+    let mut seat = seats.pop();
+    let heads = heads_of(rt, rt.alloc(), stay);
+    let has_data = begin(rt, &heads, node, &mut seat, start, output);
+    put_back(seat, seats)?;
+    Ok(has_data)
+}
+
+/// Has a node take what it begins with. It refuses where nothing was taken and something has to be.
 fn take_start<J: NodeName, N: Wait + Drop, R, W: Write, E: Write>(
     rt: &R,
     node: &Node<J, N>,
@@ -420,20 +535,13 @@ where
     let Some(start) = &stay.start else {
         return Ok(());
     };
-    let Some(seat) = seats.pop() else {
-        return Ok(());
-    };
-    let heads = heads_of(rt, rt.alloc(), stay);
-    let (seat, has_data) = begin(rt, &heads, node, seat, start, output);
+    let has_data = take_on_seat(rt, node, stay, start, seats, output)?;
     output.flush()?;
     if start.needs_data && !has_data {
         output.note(NO_DATA);
         return Err(Stop::NetTold);
     }
-    match seats.push(seat) {
-        Ok(_kept) => Ok(()),
-        Err(_memory) => Err(Stop::Refused(Refusal::Memory)),
-    }
+    Ok(())
 }
 
 /// Prints that connections can be opened.
@@ -441,32 +549,13 @@ fn tell_start<W: Write, E: Write>(
     alloc: Global,
     config: Config,
     stay: &Stay<'_>,
-    parts_bytes: Option<u64>,
+    opened: Opened,
     output: &mut Output<'_, W, E>,
 ) -> Result<(), Stop> {
     match stay.start {
-        Some(_) => tell_opened(alloc, config, stay, parts_bytes, output),
-        None => tell_ports(stay, output),
+        Some(_) => tell_opened(alloc, config, stay, opened, output),
+        None => tell_ports(stay, opened.port, output),
     }
-}
-
-/// Has a new node take what it begins with, and opens its ports and sockets.
-fn opened<J: NodeName, R, W: Write, E: Write>(
-    rt: &R,
-    node: &Node<J, &R>,
-    stay: &Stay<'_>,
-    seats: &mut Vec<ReaderSeat<J>>,
-    output: &mut Output<'_, W, E>,
-) -> Result<Listeners, Stop>
-where
-    R: Net<Listener = TcpListener, Stream = TcpStream> + Clock + Files + Alloc<A = Global>,
-    R: Threads + Wait + Sync,
-{
-    take_start(rt, node, stay, seats, output)?;
-    let listeners = listeners_of(rt, stay, output)?;
-    tell_files(rt.alloc(), workers_of(rt, stay), stay, output)?;
-    output.flush()?;
-    Ok(listeners)
 }
 
 /// Who reports the node's front, where that is asked for.
@@ -477,15 +566,33 @@ fn reports_of<J: NodeName>(stay: &Stay<'_>, seats: &mut Vec<ReaderSeat<J>>) -> O
     }
 }
 
+/// The meters of a node with so many doors, and prints that connections can be opened.
+fn begun<'d, R, W: Write, E: Write>(
+    rt: &R,
+    config: Config,
+    stay: &Stay<'_>,
+    budgets: &'d Budgets,
+    doors: usize,
+    opened: Opened,
+    output: &mut Output<'_, W, E>,
+) -> Result<Meters<'d>, Stop>
+where
+    R: Clock + Files<File = File> + Alloc<A = Global>,
+{
+    let meters = meters_of(rt, &budgets.others, budgets.reading.as_ref(), doors)?;
+    tell_start(rt.alloc(), config, stay, opened, output)?;
+    Ok(meters)
+}
+
 /// Serves connections at the doors of a node without an end.
 fn stay_at<J: NodeName + Send + Sync, R, W: Write, E: Write>(
     rt: &R,
     config: Config,
     stay: &Stay<'_>,
     doors: Vec<Door<'_, J, &R>>,
-    seats: Vec<ReaderSeat<J>>,
+    seats: &mut Vec<ReaderSeat<J>>,
     budgets: &Budgets,
-    parts_bytes: Option<u64>,
+    opened: Opened,
     output: &mut Output<'_, W, E>,
 ) -> Result<(), Stop>
 where
@@ -495,15 +602,61 @@ where
         + Alloc<A = Global>,
     R: Threads + Wait + Sync,
 {
-    let readers = budgets.reading.as_ref();
-    let meters = meters_of(rt, &budgets.others, readers, doors.len())?;
-    tell_start(rt.alloc(), config, stay, parts_bytes, output)?;
-    let mut seats = seats;
-    let reports = reports_of(stay, &mut seats);
+    let meters = begun(rt, config, stay, budgets, doors.len(), opened, output)?;
+    let reports = reports_of(stay, seats);
+    let seats = mem::replace(seats, Vec::new(rt.alloc()));
     serve_writing(rt, rt.alloc(), stay, doors, seats, &meters, reports, output).map_err(stop_of)
 }
 
-/// Serves connections to a new node of this list without an end.
+/// Serves connections to a node at these listeners without an end.
+fn stay_with<J: NodeName + Send + Sync, R, W: Write, E: Write>(
+    rt: &R,
+    config: Config,
+    stay: &Stay<'_>,
+    node: &Node<J, &R>,
+    listeners: &Listeners,
+    seats: &mut Vec<ReaderSeat<J>>,
+    output: &mut Output<'_, W, E>,
+) -> Result<(), Stop>
+where
+    R: Net<Listener = TcpListener, Stream = TcpStream>
+        + Clock
+        + Files<File = File>
+        + Alloc<A = Global>,
+    R: Threads + Wait + Sync,
+{
+    tell_files(rt.alloc(), workers_of(rt, stay), stay, output)?;
+    output.flush()?;
+    let opened = Opened {
+        port: port_of(&listeners.open, stay.port),
+        parts_bytes: parts_bytes_of(rt, stay),
+    };
+    let budgets = Budgets::new(rt.alloc(), opened.parts_bytes.unwrap_or(PLAIN_BYTES), stay)?;
+    let doors = doors_of(rt.alloc(), node, stay, listeners, &budgets)?;
+    stay_at(rt, config, stay, doors, seats, &budgets, opened, output)
+}
+
+/// Opens the ports and sockets of a node, and serves connections to it without an end.
+fn stay_open<J: NodeName + Send + Sync, R, W: Write, E: Write>(
+    rt: &R,
+    config: Config,
+    stay: &Stay<'_>,
+    node: &Node<J, &R>,
+    seats: &mut Vec<ReaderSeat<J>>,
+    output: &mut Output<'_, W, E>,
+) -> Result<(), Stop>
+where
+    R: Net<Listener = TcpListener, Stream = TcpStream>
+        + Clock
+        + Files<File = File>
+        + Alloc<A = Global>,
+    R: Threads + Wait + Sync,
+{
+    let listeners = listeners_of(rt, stay, output)?;
+    stay_with(rt, config, stay, node, &listeners, seats, output)
+}
+
+/// Has a new node of this list take what it begins with, and serves connections to it without an end.
 fn stay_list<J: NodeName + Send + Sync, R, W: Write, E: Write>(
     rt: &R,
     config: Config,
@@ -519,27 +672,10 @@ where
     R: Threads + Wait + Sync,
     requires { list ≡ (J.book, J.kind) }
 {
-    let alloc = rt.alloc();
     let wanted = seats_wanted(workers_of(rt, stay), stay);
-    let (node, mut seats) = start::<J, &R>(rt, alloc, list, wanted)?;
-    let listeners = opened(rt, &node, stay, &mut seats, output)?;
-    let stay = &Stay {
-        port: port_of(&listeners.open, stay.port),
-        ..*stay
-    };
-    let parts_bytes = parts_bytes_of(rt, stay);
-    let budgets = Budgets::new(alloc, parts_bytes.unwrap_or(PLAIN_BYTES), stay)?;
-    let doors = doors_of(alloc, &node, stay, &listeners, &budgets)?;
-    stay_at(
-        rt,
-        config,
-        stay,
-        doors,
-        seats,
-        &budgets,
-        parts_bytes,
-        output,
-    )
+    let (node, mut seats) = start::<J, &R>(rt, rt.alloc(), list, wanted)?;
+    take_start(rt, &node, stay, &mut seats, output)?;
+    stay_open(rt, config, stay, &node, &mut seats, output)
 }
 
 /// Starts a node of a log, and serves connections to it without an end: a place is free again when its connection ends. As `node` it

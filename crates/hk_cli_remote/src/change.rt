@@ -19,21 +19,21 @@ use std::rt::Clock;
 
 /// Sends a request, and prints its reply.
 fn tell<W: Write, E: Write>(
-    link: &mut Link<'_>,
-    request: &Request,
+    link: &mut Link,
+    request: Request,
     output: &mut Output<'_, W, E>,
 ) -> Result<(), Stop> {
-    let reply = link.granted(request)?;
+    let reply = link.given(request)?;
     output.print(&reply)
 }
 
 /// Has the node drop the versions that no read at a time or later needs, and prints its number.
 pub(crate) fn prune<W: Write, E: Write>(
-    link: &mut Link<'_>,
+    link: &mut Link,
     horizon: Time,
     output: &mut Output<'_, W, E>,
 ) -> Result<(), Stop> {
-    tell(link, &Request::Prune { horizon }, output)
+    tell(link, Request::Prune { horizon }, output)
 }
 
 /// Whether a delta was refused for its base alone, so that a full snapshot may serve in its place.
@@ -62,12 +62,12 @@ fn long_whole(why: Refusal, origin: Origin) -> Result<Handed, Stop> {
 }
 
 /// The full snapshot of a node that refused a delta for its base; any other refusal stops the command.
-fn whole_after(from: &mut Link<'_>, base: Time, why: Refusal) -> Result<Handed, Stop> {
+fn whole_after(from: &mut Link, base: Time, why: Refusal) -> Result<Handed, Stop> {
     if !is_of_base(&why) {
         let origin = from.origin(RequestContext::At(base));
         return Err(Stop::RefusedAt(why, origin));
     }
-    let whole = from.fragment(&Request::Full)?;
+    let whole = from.fragment(Request::Full)?;
     match whole {
         Ok(whole) => Ok(Handed::Frame(Request::MergeThis(whole))),
         Err(why) => long_whole(why, from.origin(RequestContext::Nothing)),
@@ -75,7 +75,7 @@ fn whole_after(from: &mut Link<'_>, base: Time, why: Refusal) -> Result<Handed, 
 }
 
 /// What a node returns that refused a delta: the same in chunks where a message has no room for it, or its full snapshot.
-fn without_delta(from: &mut Link<'_>, base: Time, why: Refusal) -> Result<Handed, Stop> {
+fn without_delta(from: &mut Link, base: Time, why: Refusal) -> Result<Handed, Stop> {
     if is_too_long(&why) {
         return Ok(Handed::Long(base, from.origin(RequestContext::At(base))));
     }
@@ -83,8 +83,8 @@ fn without_delta(from: &mut Link<'_>, base: Time, why: Refusal) -> Result<Handed
 }
 
 /// What a node has applied since a time, or its full snapshot where it can't cut a delta there.
-fn handed_on(from: &mut Link<'_>, base: Time) -> Result<Handed, Stop> {
-    let delta = from.fragment(&Request::Delta { base })?;
+fn handed_on(from: &mut Link, base: Time) -> Result<Handed, Stop> {
+    let delta = from.fragment(Request::Delta { base })?;
     match delta {
         Ok(delta) => Ok(Handed::Frame(Request::JoinThis(delta))),
         Err(why) => without_delta(from, base, why),
@@ -93,11 +93,11 @@ fn handed_on(from: &mut Link<'_>, base: Time) -> Result<Handed, Stop> {
 
 /// Chunks on their way to a node.
 #[derive(Drop)]
-struct Adder<'k, 'l> {
-    link: &'k mut Link<'l>,
+struct Adder<'k> {
+    link: &'k mut Link,
 }
 
-impl Parts for Adder<'_, '_> {
+impl Parts for Adder<'_> {
     /// Has the node keep the facts until the head is there.
     fn take(&mut self, facts: Vec<(VersionKey, Version)>) -> Result<(), Stop> {
         match self.link.granted_later(LaterRequest::AddPart(facts))? {
@@ -108,7 +108,7 @@ impl Parts for Adder<'_, '_> {
 }
 
 /// Adds to a node the chunks of what another has applied since a time, and returns the request by which it joins them.
-fn add_parts(own: &mut Link<'_>, other: &mut Link<'_>, base: Time) -> Result<LaterRequest, Stop> {
+fn add_parts(own: &mut Link, other: &mut Link, base: Time) -> Result<LaterRequest, Stop> {
     let mut adder = Adder { link: own };
     let head = hand_parts(other, base, &mut adder)?;
     Ok(taking(head))
@@ -116,7 +116,7 @@ fn add_parts(own: &mut Link<'_>, other: &mut Link<'_>, base: Time) -> Result<Lat
 
 /// Has a node join the chunks that were added, and prints its number.
 fn join_parts<W: Write, E: Write>(
-    own: &mut Link<'_>,
+    own: &mut Link,
     request: LaterRequest,
     output: &mut Output<'_, W, E>,
 ) -> Result<(), Stop> {
@@ -127,8 +127,8 @@ fn join_parts<W: Write, E: Write>(
 /// Copies to a node in chunks what another has applied since a time, or its full snapshot since 0, and prints the
 /// node's number. Where one of them doesn't read requests of chunks, it stops for what was refused before.
 fn pull_parts<W: Write, E: Write>(
-    own: &mut Link<'_>,
-    other: &mut Link<'_>,
+    own: &mut Link,
+    other: &mut Link,
     base: Time,
     long: Origin,
     output: &mut Output<'_, W, E>,
@@ -143,7 +143,7 @@ fn pull_parts<W: Write, E: Write>(
 /// Copies to the node what the call's source has applied since the node's resolved time, and prints its number.
 pub(crate) fn pull<R: Net<Listener = TcpListener, Stream = TcpStream> + Clock, W: Write, E: Write>(
     rt: &R,
-    own: &mut Link<'_>,
+    own: &mut Link,
     call: &NodeCall<'_>,
     terminal: Terminal,
     output: &mut Output<'_, W, E>,
@@ -151,19 +151,19 @@ pub(crate) fn pull<R: Net<Listener = TcpListener, Stream = TcpStream> + Clock, W
     let source = call.source.unwrap_or(call.place);
     output.copy_from(source)?;
     let stream = opened(rt, source, call.limits, output)?;
-    let mut other = Link::new(own.alloc(), &stream, call.limits, terminal.errors, true)?;
+    let mut other = Link::new(own.alloc(), stream, call.limits, terminal.errors, true)?;
     pull_handed(own, &mut other, output)
 }
 
 /// The same over a connection to the source.
 fn pull_handed<W: Write, E: Write>(
-    own: &mut Link<'_>,
-    other: &mut Link<'_>,
+    own: &mut Link,
+    other: &mut Link,
     output: &mut Output<'_, W, E>,
 ) -> Result<(), Stop> {
     let front = front_at(own)?;
     match handed_on(other, front.readable)? {
-        Handed::Frame(request) => tell(own, &request, output),
+        Handed::Frame(request) => tell(own, request, output),
         Handed::Long(base, long) => pull_parts(own, other, base, long, output),
     }
 }
@@ -181,25 +181,25 @@ pub fn fetch_from<R: Net<Listener = TcpListener, Stream = TcpStream> + Clock, W:
 ) -> Result<(), Stop> {
     output.copy_from(place)?;
     let stream = opened(rt, place, limits, output)?;
-    let mut other = Link::new(alloc, &stream, limits, None, true)?;
+    let mut other = Link::new(alloc, stream, limits, None, true)?;
     send_handed(&mut other, base, output)
 }
 
 /// The same over a connection to that node.
 fn send_handed<W: Write, E: Write>(
-    other: &mut Link<'_>,
+    other: &mut Link,
     base: Time,
     output: &mut Output<'_, W, E>,
 ) -> Result<(), Stop> {
     match handed_on(other, base)? {
-        Handed::Frame(request) => send_request(other.alloc(), &request, output),
+        Handed::Frame(request) => send_request(other.alloc(), request, output),
         Handed::Long(base, long) => send_long(other, base, long, output),
     }
 }
 
 /// Writes in chunks what a node has applied since a time, where it reads requests of chunks.
 fn send_long<W: Write, E: Write>(
-    other: &mut Link<'_>,
+    other: &mut Link,
     base: Time,
     long: Origin,
     output: &mut Output<'_, W, E>,

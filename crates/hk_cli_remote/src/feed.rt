@@ -32,9 +32,9 @@ struct Fed {
 
 /// Items on their way to a node.
 #[derive(Drop)]
-struct Batches<'a, 'l> {
+struct Batches<'a> {
     alloc: Global,
-    link: &'a mut Link<'l>,
+    link: &'a mut Link,
     /// How many items a batch has.
     most: u64,
     /// Whether it sends requests of version 2, whose replies say how many items were new.
@@ -46,8 +46,8 @@ struct Batches<'a, 'l> {
     fed: Fed,
 }
 
-impl<'a, 'l> Batches<'a, 'l> {
-    fn new(link: &'a mut Link<'l>, most: u64, with_second: bool) -> Batches<'a, 'l> {
+impl<'a> Batches<'a> {
+    fn new(link: &'a mut Link, most: u64, with_second: bool) -> Batches<'a> {
         let alloc = link.alloc();
         Batches {
             alloc,
@@ -103,7 +103,7 @@ impl<'a, 'l> Batches<'a, 'l> {
     fn send(&mut self) -> Result<(), Stop> {
         let count = self.items.len() as u64;
         let request = self.request();
-        let reply = self.link.granted(&request)?;
+        let reply = self.link.given(request)?;
         self.note(&reply, count)
     }
 
@@ -124,7 +124,7 @@ impl<'a, 'l> Batches<'a, 'l> {
     }
 }
 
-impl Sink for Batches<'_, '_> {
+impl Sink for Batches<'_> {
     type Item = Item;
 
     ghost took = { λ _ _ _. Unit {0} };
@@ -176,26 +176,27 @@ fn tell_new<W: Write, E: Write>(
     Ok(())
 }
 
-/// Prints how fast items went, where that is known, and how many were new, where the node reported it.
-fn tell_taken<W: Write, E: Write>(
+/// Prints how fast items went, where that is known, how many were new, where the node reported it, and the number of its last
+/// operation.
+fn tell_fed<W: Write, E: Write>(
     alloc: Global,
-    taken: u64,
-    new: Option<u64>,
+    fed: Fed,
     millis: Option<u64>,
+    with_second: bool,
     output: &mut Output<'_, W, E>,
 ) -> Result<(), Stop> {
     if let Some(millis) = millis {
-        tell_rate(alloc, taken, millis, output)?;
+        tell_rate(alloc, fed.taken, millis, output)?;
     }
-    match new {
-        Some(new) => tell_new(alloc, new, taken, output),
-        None => Ok(()),
+    if with_second {
+        tell_new(alloc, fed.new, fed.taken, output)?;
     }
+    output.print(&Reply::Done { ops: fed.ops })
 }
 
 /// Sends the items of the input to the node.
 fn feed_all<I: Read>(
-    link: &mut Link<'_>,
+    link: &mut Link,
     input: &mut I,
     most: u64,
     with_second: bool,
@@ -210,16 +211,14 @@ fn feed_all<I: Read>(
 /// stops it stay applied.
 pub(crate) fn feed<R: Clock, I: Read, W: Write, E: Write>(
     rt: &R,
-    link: &mut Link<'_>,
+    link: &mut Link,
     input: &mut I,
     most: u64,
     with_second: bool,
     output: &mut Output<'_, W, E>,
 ) -> Result<(), Stop> {
-    let alloc = link.alloc();
     let start = Instant::now(rt).ok();
     let fed = feed_all(link, input, most, with_second)?;
-    let new = if with_second { Some(fed.new) } else { None };
-    tell_taken(alloc, fed.taken, new, millis_since(rt, start), output)?;
-    output.print(&Reply::Done { ops: fed.ops })
+    let millis = millis_since(rt, start);
+    tell_fed(link.alloc(), fed, millis, with_second, output)
 }

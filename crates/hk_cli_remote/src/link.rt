@@ -7,6 +7,7 @@ use hk_cli_input::{LinkFault, MOST_READS, PIECE_BYTES, Peer, Stop};
 use hk_cli_reasons::{Origin, Place, RequestContext};
 use hk_fragment::Fragment;
 use hk_log::Item;
+use hk_model::Front;
 use hk_types::{FormFault, Refusal};
 use hk_wire::{LaterReply, LaterRequest, Reply, ReplyFeeder, Request, encode_request};
 use std::alloc::Global;
@@ -15,9 +16,9 @@ use std::io::{ErrorKind, Stderr};
 
 /// An open connection to a node.
 #[derive(Drop)]
-pub(crate) struct Link<'a> {
+pub(crate) struct Link {
     alloc: Global,
-    stream: &'a Stream,
+    stream: Stream,
     limits: Limits,
     progress: Progress,
     /// Whether the node is the one that is copied from.
@@ -52,6 +53,22 @@ pub fn refusal_of(reply: &Reply) -> Option<Refusal> {
     match reply {
         Reply::Refused(why) | Reply::Later(LaterReply::Refused(why)) => Some(*why),
         _other => None,
+    }
+}
+
+/// The range of readable times that a reply gives.
+pub(crate) fn front_of(reply: Reply) -> Result<Front, Stop> {
+    match reply {
+        Reply::Front(front) => Ok(front),
+        _none => Err(unasked()),
+    }
+}
+
+/// The log of the fragment that a reply gives.
+fn log_in(reply: Reply) -> Result<u64, Stop> {
+    match reply {
+        Reply::Fragment(fragment) => Ok(fragment.config().log()),
+        _none => Err(unasked()),
     }
 }
 
@@ -124,14 +141,15 @@ fn sent_log(request: &Request, own: Option<u64>) -> Option<u64> {
     }
 }
 
-impl<'a> Link<'a> {
+impl Link {
     pub(crate) fn new(
         alloc: Global,
-        stream: &'a Stream,
+        stream: Stream,
         limits: Limits,
         terminal: Option<Stderr>,
         is_source: bool,
-    ) -> Result<Link<'a>, Stop> {
+    ) -> Result<Link, Stop> {
+        let piece = vec![in alloc; 0u8; PIECE_BYTES]?;
         Ok(Link {
             alloc,
             stream,
@@ -140,7 +158,7 @@ impl<'a> Link<'a> {
             is_source,
             feeder: ReplyFeeder::new(alloc),
             replies: Vec::new(alloc),
-            piece: vec![in alloc; 0u8; PIECE_BYTES]?,
+            piece,
             text: Vec::new(alloc),
             sent: 0,
             is_answered: false,
@@ -276,17 +294,19 @@ impl<'a> Link<'a> {
         self.take()
     }
 
+    /// The same of a request that nobody needs behind it.
+    fn asked(&mut self, request: Request) -> Result<Reply, Stop> {
+        self.ask(&request)
+    }
+
     /// Sends a request, and waits for the fragment or the refusal that replies it.
-    pub(crate) fn fragment(
-        &mut self,
-        request: &Request,
-    ) -> Result<Result<Fragment, Refusal>, Stop> {
-        let reply = self.ask(request)?;
+    pub(crate) fn fragment(&mut self, request: Request) -> Result<Result<Fragment, Refusal>, Stop> {
+        let reply = self.asked(request)?;
         fragment_of(reply)
     }
 
     /// Sends a request and waits for its reply, which stops the command where it is a refusal.
-    pub(crate) fn granted(&mut self, request: &Request) -> Result<Reply, Stop> {
+    fn granted(&mut self, request: &Request) -> Result<Reply, Stop> {
         let reply = self.ask(request)?;
         match refusal_of(&reply) {
             Some(why) => Err(self.refused(request, why)),
@@ -294,16 +314,22 @@ impl<'a> Link<'a> {
         }
     }
 
+    /// The same of a request that nobody needs behind it.
+    pub(crate) fn given(&mut self, request: Request) -> Result<Reply, Stop> {
+        self.granted(&request)
+    }
+
+    /// What the node says of its range of readable times.
+    fn own_front(&mut self) -> Result<Front, Stop> {
+        let reply = self.asked(Request::Front)?;
+        front_of(reply)
+    }
+
     /// What the node says of its log: that of the delta since its resolved time.
-    fn own_log(&mut self) -> Result<Option<u64>, Stop> {
-        let Reply::Front(front) = self.ask(&Request::Front)? else {
-            return Ok(None);
-        };
-        let base = front.readable;
-        match self.ask(&Request::Delta { base })? {
-            Reply::Fragment(fragment) => Ok(Some(fragment.config().log())),
-            _other => Ok(None),
-        }
+    fn own_log(&mut self) -> Result<u64, Stop> {
+        let base = self.own_front()?.readable;
+        let reply = self.asked(Request::Delta { base })?;
+        log_in(reply)
     }
 
     /// Why the command stops where the node refuses a request: where it has another log, which.
@@ -313,7 +339,7 @@ impl<'a> Link<'a> {
             return Stop::RefusedAt(why, origin);
         }
         let count = self.sent;
-        let own = self.own_log().unwrap_or(None);
+        let own = self.own_log().ok();
         self.sent = count;
         let sent = sent_log(request, own);
         Stop::Link(LinkFault::OtherLog { sent, own }, origin.place)
@@ -321,7 +347,7 @@ impl<'a> Link<'a> {
 
     /// The same with a request of version 2, whose reply has its version.
     pub(crate) fn granted_later(&mut self, request: LaterRequest) -> Result<LaterReply, Stop> {
-        let reply = self.granted(&Request::Later(request))?;
+        let reply = self.given(Request::Later(request))?;
         later_of(reply)
     }
 

@@ -19,6 +19,34 @@ const ONE_VERSION: &str =
 const NOT_KNOWN: &str =
     "the node is of an earlier release and knows neither --stats nor --tables, or this port doesn't take them\n";
 
+/// What is asked for.
+#[derive(Clone, Copy)]
+pub(crate) enum Numbers {
+    /// The node's numbers.
+    Stats,
+    /// The tables that it holds anything of.
+    Tables,
+}
+
+impl Numbers {
+    /// The request for them.
+    fn request(self) -> LaterRequest {
+        match self {
+            Numbers::Stats => LaterRequest::Stats,
+            Numbers::Tables => LaterRequest::Tables,
+        }
+    }
+
+    /// Whether a reply has them.
+    fn are_in(self, told: &LaterReply) -> bool {
+        match told {
+            LaterReply::Stats(_) => matches!(self, Numbers::Stats),
+            LaterReply::Tables(_) => matches!(self, Numbers::Tables),
+            _other => false,
+        }
+    }
+}
+
 /// What is said, in words, of a node that doesn't know what it was asked.
 fn words_of(stop: &Stop) -> &'static str {
     match stop {
@@ -30,7 +58,7 @@ fn words_of(stop: &Stop) -> &'static str {
 
 /// What the node replies; where it doesn't know the request that is said in words too.
 fn told_of<W: Write, E: Write>(
-    link: &mut Link<'_>,
+    link: &mut Link,
     request: LaterRequest,
     output: &mut Output<'_, W, E>,
 ) -> Result<LaterReply, Stop> {
@@ -91,27 +119,15 @@ fn print_told<W: Write, E: Write>(
     }
 }
 
-/// Prints the node's numbers.
-pub(crate) fn tell_stats<W: Write, E: Write>(
-    link: &mut Link<'_>,
+/// Prints the node's numbers, or the tables that it holds anything of.
+pub(crate) fn tell_numbers<W: Write, E: Write>(
+    link: &mut Link,
+    numbers: Numbers,
     form: OutputForm,
     output: &mut Output<'_, W, E>,
 ) -> Result<(), Stop> {
-    let told = told_of(link, LaterRequest::Stats, output)?;
-    if !matches!(told, LaterReply::Stats(_)) {
-        return Err(unasked());
-    }
-    print_told(&told, form, output)
-}
-
-/// Prints the tables that the node holds anything of.
-pub(crate) fn tell_tables<W: Write, E: Write>(
-    link: &mut Link<'_>,
-    form: OutputForm,
-    output: &mut Output<'_, W, E>,
-) -> Result<(), Stop> {
-    let told = told_of(link, LaterRequest::Tables, output)?;
-    if !matches!(told, LaterReply::Tables(_)) {
+    let told = told_of(link, numbers.request(), output)?;
+    if !numbers.are_in(&told) {
         return Err(unasked());
     }
     print_told(&told, form, output)

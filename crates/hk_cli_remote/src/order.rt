@@ -5,7 +5,7 @@ ghost use Rattle.std.specs.Prelude.{◌≤◌};
 use crate::change::{prune, pull};
 use crate::feed::feed;
 use crate::link::Link;
-use crate::numbers::{tell_stats, tell_tables};
+use crate::numbers::{Numbers, tell_numbers};
 use crate::push::{Accepted, push_all};
 use crate::read::{save, tell_answer, tell_front, tell_status};
 use crate::shell::answer_lines;
@@ -29,7 +29,7 @@ pub struct Terminal {
 
 /// Prints how far each stream of the node is, and then its numbers and its tables, where they are wanted.
 fn tell_all<W: Write, E: Write>(
-    link: &mut Link<'_>,
+    link: &mut Link,
     stats: bool,
     tables: bool,
     form: OutputForm,
@@ -37,37 +37,21 @@ fn tell_all<W: Write, E: Write>(
 ) -> Result<(), Stop> {
     tell_status(link, output)?;
     if stats {
-        tell_stats(link, form, output)?;
+        tell_numbers(link, Numbers::Stats, form, output)?;
     }
     if tables {
-        tell_tables(link, form, output)?;
+        return tell_numbers(link, Numbers::Tables, form, output);
     }
     Ok(())
 }
 
-/// Has a node do what is asked, and returns whether a reply was a refusal after which the command went on.
-fn obey<R, I: Read, W: Write, E: Write>(
-    rt: &R,
-    link: &mut Link<'_>,
-    call: &NodeCall<'_>,
-    input: &mut I,
-    terminal: Terminal,
+/// Prints what a node replies to an order that reads no input.
+fn tell<W: Write, E: Write>(
+    link: &mut Link,
+    order: &Order,
     output: &mut Output<'_, W, E>,
-) -> Result<bool, Stop>
-where
-    R: Net<Listener = TcpListener, Stream = TcpStream> + Clock,
-{
-    let told = match &call.order {
-        Order::Push { with_second: false } => {
-            return push_all::<_, _, _, 1>(link, input, Accepted::All, output);
-        }
-        Order::Push { with_second: true } => {
-            return push_all::<_, _, _, 2>(link, input, Accepted::All, output);
-        }
-        Order::Load => return push_all::<_, _, _, 2>(link, input, Accepted::Fragments, output),
-        Order::Shell { bodies } => {
-            return answer_lines(link, input, terminal.is_input, *bodies, output);
-        }
+) -> Result<(), Stop> {
+    match order {
         Order::Ask {
             time,
             waits,
@@ -81,11 +65,53 @@ where
             form,
         } => tell_all(link, *stats, *tables, *form, output),
         Order::Save { form } => save(link, *form, output),
-        Order::Pull => pull(rt, link, call, terminal, output),
         Order::Prune { horizon } => prune(link, *horizon, output),
-        Order::Feed { batch, with_second } => feed(rt, link, input, *batch, *with_second, output),
-    };
-    told.map(|()| false)
+        _other => Ok(()),
+    }
+}
+
+/// Passes on the requests or the lines of the input, and returns whether one was refused after which the command went on.
+fn pass_on<I: Read, W: Write, E: Write>(
+    link: &mut Link,
+    order: &Order,
+    input: &mut I,
+    is_terminal: bool,
+    output: &mut Output<'_, W, E>,
+) -> Result<bool, Stop> {
+    match order {
+        Order::Push { with_second: false } => {
+            push_all::<_, _, _, 1>(link, input, Accepted::All, output)
+        }
+        Order::Push { with_second: true } => {
+            push_all::<_, _, _, 2>(link, input, Accepted::All, output)
+        }
+        Order::Load => push_all::<_, _, _, 2>(link, input, Accepted::Fragments, output),
+        Order::Shell { bodies } => answer_lines(link, input, is_terminal, *bodies, output),
+        _other => Ok(false),
+    }
+}
+
+/// Has a node do what is asked, and returns whether a reply was a refusal after which the command went on.
+fn obey<R, I: Read, W: Write, E: Write>(
+    rt: &R,
+    link: &mut Link,
+    call: &NodeCall<'_>,
+    input: &mut I,
+    terminal: Terminal,
+    output: &mut Output<'_, W, E>,
+) -> Result<bool, Stop>
+where
+    R: Net<Listener = TcpListener, Stream = TcpStream> + Clock,
+{
+    match &call.order {
+        Order::Pull => pull(rt, link, call, terminal, output)?,
+        Order::Feed { batch, with_second } => feed(rt, link, input, *batch, *with_second, output)?,
+        Order::Push { .. } | Order::Load | Order::Shell { .. } => {
+            return pass_on(link, &call.order, input, terminal.is_input, output);
+        }
+        reads => tell(link, reads, output)?,
+    }
+    Ok(false)
 }
 
 /// The same over a new connection to the node.
@@ -102,7 +128,7 @@ where
 {
     output.ask_at(call.place)?;
     let stream = opened(rt, call.place, call.limits, output)?;
-    let mut link = Link::new(alloc, &stream, call.limits, terminal.errors, false)?;
+    let mut link = Link::new(alloc, stream, call.limits, terminal.errors, false)?;
     obey(rt, &mut link, call, input, terminal, output)
 }
 

@@ -27,25 +27,42 @@ pub(crate) trait Parts {
     fn take(&mut self, facts: Vec<(VersionKey, Version)>) -> Result<(), Stop>;
 }
 
+/// The request of the chunk of this number, counted from 0, of what a node has applied since a time.
+fn request_of(base: Time, number: u64) -> LaterRequest {
+    if number > 0 {
+        return LaterRequest::More;
+    }
+    let most_bytes = PART_BYTES;
+    LaterRequest::Whole { base, most_bytes }
+}
+
+/// Passes on the chunk that a reply gives, and returns the head of its fragment where it is the last.
+fn hand_part<P: Parts>(reply: LaterReply, parts: &mut P) -> Result<Option<FragmentHead>, Stop> {
+    match reply {
+        LaterReply::Part { facts, .. } => {
+            parts.take(facts)?;
+            Ok(None)
+        }
+        LaterReply::LastPart { facts, head } => {
+            parts.take(facts)?;
+            Ok(Some(head))
+        }
+        _none => Err(unasked()),
+    }
+}
+
 /// Passes on what a node has applied since a time, or its full snapshot since 0, chunk by chunk, and returns the head of
 /// all. It keeps one chunk.
 pub(crate) fn hand_parts<P: Parts>(
-    from: &mut Link<'_>,
+    from: &mut Link,
     base: Time,
     parts: &mut P,
 ) -> Result<FragmentHead, Stop> {
-    let most_bytes = PART_BYTES;
-    let mut request = LaterRequest::Whole { base, most_bytes };
-    for _ in 0..MOST_PARTS {
-        match from.granted_later(request)? {
-            LaterReply::Part { facts, .. } => parts.take(facts)?,
-            LaterReply::LastPart { facts, head } => {
-                parts.take(facts)?;
-                return Ok(head);
-            }
-            _none => return Err(unasked()),
+    for number in 0..MOST_PARTS {
+        let reply = from.granted_later(request_of(base, number))?;
+        if let Some(head) = hand_part(reply, parts)? {
+            return Ok(head);
         }
-        request = LaterRequest::More;
     }
     Err(Stop::ReadFault)
 }

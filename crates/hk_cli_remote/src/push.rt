@@ -44,7 +44,7 @@ fn is_accepted(accepted: Accepted, request: &Request) -> bool {
 
 /// Prints why a reply refuses its request, and returns whether it does. It stops at a chunk that is refused.
 fn is_refused<W: Write, E: Write>(
-    link: &mut Link<'_>,
+    link: &mut Link,
     request: &Request,
     reply: &Reply,
     output: &mut Output<'_, W, E>,
@@ -65,7 +65,7 @@ fn is_refused<W: Write, E: Write>(
 
 /// Prints a reply to a request, writes what was printed, and returns whether the reply is a refusal.
 fn show<W: Write, E: Write>(
-    link: &mut Link<'_>,
+    link: &mut Link,
     request: &Request,
     reply: &Reply,
     output: &mut Output<'_, W, E>,
@@ -78,7 +78,7 @@ fn show<W: Write, E: Write>(
 
 /// Sends a request, waits for its reply and prints it, and returns whether that is a refusal.
 fn asked<W: Write, E: Write>(
-    link: &mut Link<'_>,
+    link: &mut Link,
     request: &Request,
     output: &mut Output<'_, W, E>,
 ) -> Result<bool, Stop> {
@@ -88,8 +88,8 @@ fn asked<W: Write, E: Write>(
 
 /// Requests up to a version, on their way to a node.
 #[derive(Drop)]
-struct Pusher<'k, 'l, 'o, 'p, W: Write, E: Write, const LATEST: u8> {
-    link: &'k mut Link<'l>,
+struct Pusher<'k, 'o, 'p, W: Write, E: Write, const LATEST: u8> {
+    link: &'k mut Link,
     output: &'o mut Output<'p, W, E>,
     accepted: Accepted,
     feeder: RequestFeeder<LATEST>,
@@ -101,12 +101,12 @@ struct Pusher<'k, 'l, 'o, 'p, W: Write, E: Write, const LATEST: u8> {
     kind: u8,
 }
 
-impl<'k, 'l, 'o, 'p, W: Write, E: Write, const LATEST: u8> Pusher<'k, 'l, 'o, 'p, W, E, LATEST> {
+impl<'k, 'o, 'p, W: Write, E: Write, const LATEST: u8> Pusher<'k, 'o, 'p, W, E, LATEST> {
     fn new(
-        link: &'k mut Link<'l>,
+        link: &'k mut Link,
         output: &'o mut Output<'p, W, E>,
         accepted: Accepted,
-    ) -> Pusher<'k, 'l, 'o, 'p, W, E, LATEST> {
+    ) -> Pusher<'k, 'o, 'p, W, E, LATEST> {
         let alloc = link.alloc();
         Pusher {
             link,
@@ -161,7 +161,7 @@ impl<'k, 'l, 'o, 'p, W: Write, E: Write, const LATEST: u8> Pusher<'k, 'l, 'o, 'p
     }
 }
 
-impl<W: Write, E: Write, const LATEST: u8> Pieces for Pusher<'_, '_, '_, '_, W, E, LATEST> {
+impl<W: Write, E: Write, const LATEST: u8> Pieces for Pusher<'_, '_, '_, W, E, LATEST> {
     ghost took = { λ _ _ _. Unit {0} };
 
     fn take(&mut self, piece: &[u8]) -> Result<(), Stop> {
@@ -179,13 +179,13 @@ impl<W: Write, E: Write, const LATEST: u8> Pieces for Pusher<'_, '_, '_, '_, W, 
 /// was a refusal. Where `accepted` is the fragments alone, another request stops them before it is sent; one of a version above
 /// `LATEST` is a bad version, which can't be read.
 pub(crate) fn push_all<I: Read, W: Write, E: Write, const LATEST: u8>(
-    link: &mut Link<'_>,
+    link: &mut Link,
     input: &mut I,
     accepted: Accepted,
     output: &mut Output<'_, W, E>,
 ) -> Result<bool, Stop> {
     let alloc = link.alloc();
-    let mut pusher: Pusher<'_, '_, '_, '_, W, E, LATEST> = Pusher::new(link, output, accepted);
+    let mut pusher: Pusher<'_, '_, '_, W, E, LATEST> = Pusher::new(link, output, accepted);
     read_pieces(alloc, input, &mut pusher)?;
     pusher.finish()?;
     Ok(pusher.is_refused)

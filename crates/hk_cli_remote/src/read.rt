@@ -1,6 +1,6 @@
 //! What reads a node: `ask`, `front`, `status` and `save`.
 
-use crate::link::{Link, unasked};
+use crate::link::{Link, front_of, unasked};
 use crate::parts::{Parts, hand_parts, is_too_long, taking};
 use hk_cli_calls::OutputForm;
 use hk_cli_commands::{Output, put_status};
@@ -23,39 +23,39 @@ const ONE_VERSION: &str =
     "the node answers messages of version 1 alone, and --wait needs version 2: start it by 'hkrep node', or with --messages 2\n";
 
 /// The node's range of readable times.
-pub(crate) fn front_at(link: &mut Link<'_>) -> Result<Front, Stop> {
-    match link.granted(&Request::Front)? {
-        Reply::Front(front) => Ok(front),
-        _none => Err(unasked()),
-    }
+pub(crate) fn front_at(link: &mut Link) -> Result<Front, Stop> {
+    let reply = link.given(Request::Front)?;
+    front_of(reply)
 }
 
 /// The fragment that a request asks for.
-pub(crate) fn fragment_at(link: &mut Link<'_>, request: &Request) -> Result<Fragment, Stop> {
-    match link.granted(request)? {
+fn fragment_at(link: &mut Link, request: Request) -> Result<Fragment, Stop> {
+    match link.given(request)? {
         Reply::Fragment(fragment) => Ok(fragment),
         _none => Err(unasked()),
     }
 }
 
-/// The node's answer to a query at a time, or at its resolved time.
-pub(crate) fn answer_at(
-    link: &mut Link<'_>,
-    time: Option<Time>,
-    query: Query,
-) -> Result<Answer, Stop> {
-    let t = match time {
-        Some(time) => time,
-        None => front_at(link)?.readable,
-    };
-    match link.granted(&Request::Ask { t, query })? {
+/// The answer that a reply gives.
+fn answer_of(reply: Reply) -> Result<Answer, Stop> {
+    match reply {
         Reply::Answer(answer) => Ok(answer),
         _none => Err(unasked()),
     }
 }
 
+/// The node's answer to a query at a time, or at its resolved time.
+pub(crate) fn answer_at(link: &mut Link, time: Option<Time>, query: Query) -> Result<Answer, Stop> {
+    let t = match time {
+        Some(time) => time,
+        None => front_at(link)?.readable,
+    };
+    let reply = link.given(Request::Ask { t, query })?;
+    answer_of(reply)
+}
+
 /// The node's range of readable times, as it replies to a request that it lets wait until a time can be read.
-fn front_after(link: &mut Link<'_>, t: Time) -> Result<Front, Stop> {
+fn front_after(link: &mut Link, t: Time) -> Result<Front, Stop> {
     let milliseconds = link.most_wait();
     match link.granted_later(LaterRequest::Await { t, milliseconds })? {
         LaterReply::Ready { horizon, readable } => Ok(Front { horizon, readable }),
@@ -64,7 +64,7 @@ fn front_after(link: &mut Link<'_>, t: Time) -> Result<Front, Stop> {
 }
 
 /// The node's range of readable times, once a time can be read.
-fn front_once(link: &mut Link<'_>, time: Time) -> Result<Front, Stop> {
+fn front_once(link: &mut Link, time: Time) -> Result<Front, Stop> {
     for _ in 0..MOST_WAITS {
         let front = front_after(link, time)?;
         if front.readable >= time {
@@ -86,7 +86,7 @@ fn tell_version<W: Write, E: Write>(stop: &Stop, output: &mut Output<'_, W, E>) 
 
 /// The same, at once where no time is given. Where a node answers messages of version 1 alone a line of its own says that.
 fn front_from<W: Write, E: Write>(
-    link: &mut Link<'_>,
+    link: &mut Link,
     wait: Option<Time>,
     output: &mut Output<'_, W, E>,
 ) -> Result<Front, Stop> {
@@ -104,7 +104,7 @@ fn front_from<W: Write, E: Write>(
 
 /// Prints the node's range of readable times, once a time can be read where one is given.
 pub(crate) fn tell_front<W: Write, E: Write>(
-    link: &mut Link<'_>,
+    link: &mut Link,
     wait: Option<Time>,
     output: &mut Output<'_, W, E>,
 ) -> Result<(), Stop> {
@@ -114,7 +114,7 @@ pub(crate) fn tell_front<W: Write, E: Write>(
 
 /// Waits until a time can be read, where the order waits.
 fn await_time<W: Write, E: Write>(
-    link: &mut Link<'_>,
+    link: &mut Link,
     time: &Option<Time>,
     waits: bool,
     output: &mut Output<'_, W, E>,
@@ -130,7 +130,7 @@ fn await_time<W: Write, E: Write>(
 
 /// Prints the node's answer to a query at a time, once that can be read where the order waits, or at its resolved time.
 pub(crate) fn tell_answer<W: Write, E: Write>(
-    link: &mut Link<'_>,
+    link: &mut Link,
     time: Option<Time>,
     waits: bool,
     query: Query,
@@ -141,13 +141,18 @@ pub(crate) fn tell_answer<W: Write, E: Write>(
     output.show(&answer)
 }
 
+/// A delta since the node's resolved time.
+fn delta_now(link: &mut Link) -> Result<Fragment, Stop> {
+    let base = front_at(link)?.readable;
+    fragment_at(link, Request::Delta { base })
+}
+
 /// Prints how far each stream of the node is, by a delta since its resolved time.
 pub(crate) fn tell_status<W: Write, E: Write>(
-    link: &mut Link<'_>,
+    link: &mut Link,
     output: &mut Output<'_, W, E>,
 ) -> Result<(), Stop> {
-    let base = front_at(link)?.readable;
-    let fragment = fragment_at(link, &Request::Delta { base })?;
+    let fragment = delta_now(link)?;
     let got = fragment.got();
     let (horizon, readable) = (fragment.horizon(), got.readable());
     put_status(got, Front { horizon, readable }, output)
@@ -156,11 +161,11 @@ pub(crate) fn tell_status<W: Write, E: Write>(
 /// Writes a request.
 pub(crate) fn send_request<W: Write, E: Write>(
     alloc: Global,
-    request: &Request,
+    request: Request,
     output: &mut Output<'_, W, E>,
 ) -> Result<(), Stop> {
     let mut frame = Vec::new(alloc);
-    encode_request(request, &mut frame)?;
+    encode_request(&request, &mut frame)?;
     output.send(&frame)
 }
 
@@ -192,34 +197,34 @@ impl<'o, 'p, W: Write, E: Write> Writer<'o, 'p, W, E> {
     }
 
     /// Writes a request.
-    fn send(&mut self, request: &Request) -> Result<(), Stop> {
+    fn send(&mut self, request: Request) -> Result<(), Stop> {
         self.frame.clear();
-        encode_request(request, &mut self.frame)?;
+        encode_request(&request, &mut self.frame)?;
         self.output.send(&self.frame)
     }
 }
 
 impl<W: Write, E: Write> Parts for Writer<'_, '_, W, E> {
     fn take(&mut self, facts: Vec<(VersionKey, Version)>) -> Result<(), Stop> {
-        self.send(&Request::Later(LaterRequest::AddPart(facts)))
+        self.send(Request::Later(LaterRequest::AddPart(facts)))
     }
 }
 
 /// Writes the requests that give the chunks of what a node has applied since a time to another, those of its full snapshot since 0.
 pub(crate) fn send_parts<W: Write, E: Write>(
-    link: &mut Link<'_>,
+    link: &mut Link,
     base: Time,
     output: &mut Output<'_, W, E>,
 ) -> Result<(), Stop> {
     let mut writer = Writer::new(link.alloc(), output);
     let head = hand_parts(link, base, &mut writer)?;
-    writer.send(&Request::Later(taking(head)))
+    writer.send(Request::Later(taking(head)))
 }
 
 /// The same of a full snapshot that was refused, where a message has no room for it and the node reads requests of
 /// chunks. Else it stops for what was refused.
 fn send_refused<W: Write, E: Write>(
-    link: &mut Link<'_>,
+    link: &mut Link,
     why: Refusal,
     output: &mut Output<'_, W, E>,
 ) -> Result<(), Stop> {
@@ -232,24 +237,33 @@ fn send_refused<W: Write, E: Write>(
 
 /// Writes the node's full snapshot as the request that gives it to a node, or in chunks where a message has no room for it.
 fn save_frames<W: Write, E: Write>(
-    link: &mut Link<'_>,
+    link: &mut Link,
     output: &mut Output<'_, W, E>,
 ) -> Result<(), Stop> {
-    let whole = link.fragment(&Request::Full)?;
+    let whole = link.fragment(Request::Full)?;
     match whole {
-        Ok(whole) => send_request(link.alloc(), &Request::MergeThis(whole), output),
+        Ok(whole) => send_request(link.alloc(), Request::MergeThis(whole), output),
         Err(why) => send_refused(link, why, output),
     }
 }
 
+/// Prints the node's full snapshot in JSON.
+fn save_lines<W: Write, E: Write>(
+    link: &mut Link,
+    output: &mut Output<'_, W, E>,
+) -> Result<(), Stop> {
+    let whole = fragment_at(link, Request::Full)?;
+    print_whole(&whole, output)
+}
+
 /// Writes the node's full snapshot.
 pub(crate) fn save<W: Write, E: Write>(
-    link: &mut Link<'_>,
+    link: &mut Link,
     form: OutputForm,
     output: &mut Output<'_, W, E>,
 ) -> Result<(), Stop> {
     match form {
-        OutputForm::Json => print_whole(&fragment_at(link, &Request::Full)?, output),
+        OutputForm::Json => save_lines(link, output),
         OutputForm::Lines | OutputForm::Bytes => save_frames(link, output),
     }
 }

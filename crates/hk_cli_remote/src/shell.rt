@@ -24,9 +24,9 @@ const BANNER: &str =
 
 /// Lines on their way to a node.
 #[derive(Drop)]
-struct Shell<'k, 'l, 'o, 'p, W: Write, E: Write> {
+struct Shell<'k, 'o, 'p, W: Write, E: Write> {
     alloc: Global,
-    link: &'k mut Link<'l>,
+    link: &'k mut Link,
     output: &'o mut Output<'p, W, E>,
     is_terminal: bool,
     bodies: Bodies,
@@ -34,13 +34,13 @@ struct Shell<'k, 'l, 'o, 'p, W: Write, E: Write> {
     is_refused: bool,
 }
 
-impl<'k, 'l, 'o, 'p, W: Write, E: Write> Shell<'k, 'l, 'o, 'p, W, E> {
+impl<'k, 'o, 'p, W: Write, E: Write> Shell<'k, 'o, 'p, W, E> {
     fn new(
-        link: &'k mut Link<'l>,
+        link: &'k mut Link,
         output: &'o mut Output<'p, W, E>,
         is_terminal: bool,
         bodies: Bodies,
-    ) -> Shell<'k, 'l, 'o, 'p, W, E> {
+    ) -> Shell<'k, 'o, 'p, W, E> {
         Shell {
             alloc: link.alloc(),
             link,
@@ -124,7 +124,7 @@ fn asked(line: &[u8]) -> Option<Asking> {
     }
 }
 
-impl<W: Write, E: Write> Lines for Shell<'_, '_, '_, '_, W, E> {
+impl<W: Write, E: Write> Lines for Shell<'_, '_, '_, W, E> {
     ghost took = { λ _ _ _. Unit {0} };
 
     /// Answers a line.
@@ -156,7 +156,7 @@ impl<W: Write, E: Write> Lines for Shell<'_, '_, '_, '_, W, E> {
 
 /// Answers the lines of the input from the node, up to its end or `quit`, and returns whether one was refused or had no form.
 pub(crate) fn answer_lines<I: Read, W: Write, E: Write>(
-    link: &mut Link<'_>,
+    link: &mut Link,
     input: &mut I,
     is_terminal: bool,
     bodies: Bodies,

@@ -30,12 +30,12 @@ fn widths_of(rows: &[(Key, Row)]) -> (usize, usize) {
     (key_width, tag_width)
 }
 
-/// Adds spaces and then the text, as many as fill the width where the text has so many letters.
+/// Adds spaces and then the text, as many as fill the width where the text has so many letters, and two behind it.
 fn put_cell(text: &str, letters: usize, width: usize, out: &mut String) -> Result<(), AllocError> {
     for _ in letters..width {
         out.push(' ')?;
     }
-    out.push_str(text)
+    write!(out, "{text}  ")
 }
 
 fn put_number(
@@ -144,18 +144,15 @@ fn put_row(
     out: &mut String,
 ) -> Result<(), AllocError> {
     put_number(alloc, key.number(), widths.0, out)?;
-    out.push_str("  ")?;
     put_number(alloc, u64::from(row.tag().number()), widths.1, out)?;
-    out.push_str("  ")?;
     put_body(alloc, row.body(), bodies, out)?;
     out.push('\n')
 }
 
 fn put_head(widths: (usize, usize), out: &mut String) -> Result<(), AllocError> {
     put_cell("key", 3, widths.0, out)?;
-    out.push_str("  ")?;
     put_cell("tag", 3, widths.1, out)?;
-    out.push_str("  body\n")
+    out.push_str("body\n")
 }
 
 /// Adds rows as a table: a head, a line for each, with its body as `bodies` has it, and how many they are. The only error is out of memory; then the text

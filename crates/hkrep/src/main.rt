@@ -6,6 +6,7 @@ mod whole_file;
 
 use crate::watched::Watched;
 use crate::whole_file::WholeFile;
+use clap::Error;
 use hk_cli::{
     Terminal, run_ask, run_at, run_explain, run_frames, run_front, run_items, run_order,
     run_rewrite, run_serve, run_status, run_stay, run_world,
@@ -134,6 +135,27 @@ fn run_script<R: Files + Alloc<A = Global>, I: Read, W: Write, E: Write>(
     }
 }
 
+/// Puts a file in its place where the order that wrote it ended with 0, and removes it else. Returns the status.
+fn placed<R: Files<File = File> + Alloc<A = Global>, E: Write>(
+    rt: &R,
+    whole: &WholeFile,
+    status: u8,
+    name: &str,
+    errors: &mut E,
+) -> u8 {
+    if status > 0 {
+        whole.leave(rt);
+        return status;
+    }
+    match whole.finish(rt) {
+        Ok(()) => 0,
+        Err(error) => {
+            tell_no_file(rt.alloc(), "write", name, &error, errors);
+            1
+        }
+    }
+}
+
 /// The status of an order to a node whose output goes into the file of this name: all of it, or the file stays as it was.
 fn run_into<R, I: Read, E: Write>(
     rt: &R,
@@ -148,22 +170,13 @@ where
     R: Files<File = File> + Alloc<A = Global>,
 {
     let alloc = rt.alloc();
-    let mut whole = match WholeFile::new(rt, name) {
-        Ok(whole) => whole,
+    match WholeFile::new(rt, name) {
+        Ok(mut whole) => {
+            let status = run_order(rt, alloc, call, input, terminal, &mut whole.file, errors);
+            placed(rt, &whole, status, name, errors)
+        }
         Err(error) => {
             tell_no_file(alloc, "make", name, &error, errors);
-            return 1;
-        }
-    };
-    let status = run_order(rt, alloc, call, input, terminal, &mut whole.file, errors);
-    if status > 0 {
-        whole.leave(rt);
-        return status;
-    }
-    match whole.finish(rt) {
-        Ok(()) => 0,
-        Err(error) => {
-            tell_no_file(alloc, "write", name, &error, errors);
             1
         }
     }
@@ -228,21 +241,25 @@ fn terminal_of(rt: &HostRuntime) -> Terminal {
     }
 }
 
+/// Prints why the words are no call, or the help that they ask for. Returns the status.
+fn told(rt: &HostRuntime, error: &Error) -> u8 {
+    if error.print(rt).is_err() {
+        let _ = rt.stderr().write_all(NO_OUTPUT);
+        return 1;
+    }
+    error.exit_code() as u8
+}
+
 fn main(rt: HostRuntime) -> io::Result<ExitCode> {
     let words = words(&rt)?;
     let node = node_named(&rt)?;
-    let call = match read_call(rt.alloc(), &words, node.as_deref()) {
-        Ok(call) => call,
-        Err(error) => {
-            if error.print(&rt).is_err() {
-                let _ = rt.stderr().write_all(NO_OUTPUT);
-                return Ok(ExitCode::from(1));
-            }
-            return Ok(ExitCode::from(error.exit_code() as u8));
+    let status = match read_call(rt.alloc(), &words, node.as_deref()) {
+        Ok(call) => {
+            let mut input = Watched::new(&rt, rt.reader());
+            let mut errors = rt.stderr();
+            run(&rt, &mut input, terminal_of(&rt), &mut errors, &call)
         }
+        Err(error) => told(&rt, &error),
     };
-    let terminal = terminal_of(&rt);
-    let mut input = Watched::new(&rt, rt.reader());
-    let mut errors = rt.stderr();
-    Ok(ExitCode::from(run(&rt, &mut input, terminal, &mut errors, &call)))
+    Ok(ExitCode::from(status))
 }

@@ -42,13 +42,21 @@ fn is_at<R: Files>(rt: &R, file: &File, name: &str) -> io::Result<bool> {
     }
 }
 
-/// The file of this name, which no other writer has: where one has it, it is waited for.
+/// Whether an open file is the one of this name once no other writer has it; then it is empty. Where one has it, it is waited for.
+fn is_locked<R: Files>(rt: &R, file: &File, name: &str) -> io::Result<bool> {
+    file.lock()?;
+    if !is_at(rt, file, name)? {
+        return Ok(false);
+    }
+    file.set_len(0)?;
+    Ok(true)
+}
+
+/// The file of this name, which no other writer has.
 fn locked<R: Files<File = File>>(rt: &R, name: &str) -> io::Result<File> {
     for _ in 0..MOST_TRIES {
         let file = OpenOptions::new().write(true).create(true).open(rt, name)?;
-        file.lock()?;
-        if is_at(rt, &file, name)? {
-            file.set_len(0)?;
+        if is_locked(rt, &file, name)? {
             return Ok(file);
         }
     }
@@ -80,25 +88,24 @@ impl WholeFile {
     }
 
     /// Puts it in the place of the other, once the system keeps all of it. Where that fails the other stays.
-    pub(crate) fn finish<R: Files<File = File>>(self, rt: &R) -> io::Result<()> {
-        let put = match self.file.sync_all() {
-            Ok(()) => fs::rename(rt, self.beside.as_str(), self.name.as_str()),
-            Err(error) => Err(error),
-        };
-        match put {
-            Ok(()) => {
-                sync_folder(rt, self.name.as_str());
-                Ok(())
-            }
-            Err(error) => {
-                self.leave(rt);
-                Err(error)
-            }
+    pub(crate) fn finish<R: Files<File = File>>(&self, rt: &R) -> io::Result<()> {
+        let put = self.put(rt);
+        if put.is_ok() {
+            sync_folder(rt, self.name.as_str());
+        } else {
+            self.leave(rt);
         }
+        put
+    }
+
+    /// The same without its folder, and where it fails both files stay.
+    fn put<R: Files<File = File>>(&self, rt: &R) -> io::Result<()> {
+        self.file.sync_all()?;
+        fs::rename(rt, self.beside.as_str(), self.name.as_str())
     }
 
     /// Removes it. The other stays.
-    pub(crate) fn leave<R: Files<File = File>>(self, rt: &R) {
+    pub(crate) fn leave<R: Files<File = File>>(&self, rt: &R) {
         let _removed = fs::remove_file(rt, self.beside.as_str());
     }
 }
