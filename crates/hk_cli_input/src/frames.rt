@@ -17,6 +17,9 @@ use std::io::Read;
 /// How many bytes of a piece are decoded at a time, so that the next items take the memory that the last ones gave back.
 const PART_BYTES: usize = 1_024;
 
+/// For how many items room is made before a part is decoded.
+const PART_ITEMS: usize = 8;
+
 /// What the items of an input are read as: whole, or as their outlines.
 pub trait FromFrame: Drop {
     ghost use Rattle.std.specs.Prelude.{ℕ, List, [], Result, Ok};
@@ -167,6 +170,8 @@ fn take_piece<S: Sink>(
     for part in piece.chunks(PART_BYTES) {
         S::Item::laws();
         let mut items = Vec::new(alloc);
+        // (where there is no room for them at once, it is made as they come)
+        let _room = items.reserve(PART_ITEMS);
         let fed = feeder.feed(part, &mut items);
         take_all(items, sink, &mut at.count)?;
         checked(fed, at.count, at.kind)?;

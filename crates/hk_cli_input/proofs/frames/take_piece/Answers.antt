@@ -21,8 +21,8 @@ loop-part-preserved g c =
       inv.2 ++ part,
       inv.3 ∙ (ap (λ (l : List ℕ). inv.2 ++ l) cut ∙ sym (append_assoc inv.2 part (chunks_rest c.next.new.self))),
       goes_further g.S.Item.FromFrame.Reads g.S.Sink.took c.args.sink.now c.loop-part.sink c.take_all.new.sink c.args.feeder.now c.loop-part.feeder f.new.self inv.2 part inv.4
-          (goes_on g.S.Item.Format.Format.Adds g.S.Item.FromFrame.Reads g.S.Sink.took c.loop-part.sink c.take_all.new.sink c.loop-part.feeder f.new.self c.new-items.result.items f.new.out.items part f.result
-          c.laws.ensures.adds c.laws.ensures.join c.new-items.ensures.items f.ensures.reads (sym c.checked.ensures ∙ ap is_ok c.in_ok-checked.was) c.in_ok-take_all.ensures.ok),
+          (goes_on g.S.Item.Format.Format.Adds g.S.Item.FromFrame.Reads g.S.Sink.took c.loop-part.sink c.take_all.new.sink c.loop-part.feeder f.new.self c.reserve-room.new.self.items f.new.out.items part f.result
+          c.laws.ensures.adds c.laws.ensures.join (c.reserve-room.ensures.items ∙ c.new-items.ensures.items) f.ensures.reads (sym c.checked.ensures ∙ ap is_ok c.in_ok-checked.was) c.in_ok-take_all.ensures.ok),
     )
 
 pub returns-in_err-take_all-clause-err : goal.returns-in_err-take_all-clause-err
@@ -34,8 +34,8 @@ returns-in_err-take_all-clause-err g c =
     err_so c.from_residual.result
     (subst (λ (l : List ℕ). BreaksOff g.S.Item.FromFrame.Reads g.S.Sink.took c.args.sink.now c.take_all.new.sink c.args.feeder.now l) (sym (inv.3 ∙ ap (λ (l : List ℕ). inv.2 ++ l) cut))
     (breaks_further g.S.Item.FromFrame.Reads g.S.Sink.took c.args.sink.now c.loop-part.sink c.take_all.new.sink c.args.feeder.now c.loop-part.feeder inv.2 part (chunks_rest c.next.new.self) inv.4
-    (breaks_off g.S.Item.Format.Format.Adds g.S.Item.FromFrame.Reads g.S.Sink.took c.loop-part.sink c.take_all.new.sink c.loop-part.feeder f.new.self c.new-items.result.items f.new.out.items part f.result
-    c.laws.ensures.adds c.laws.ensures.join c.new-items.ensures.items f.ensures.reads f.ensures.memory c.in_err-take_all.ensures.err)))
+    (breaks_off g.S.Item.Format.Format.Adds g.S.Item.FromFrame.Reads g.S.Sink.took c.loop-part.sink c.take_all.new.sink c.loop-part.feeder f.new.self c.reserve-room.new.self.items f.new.out.items part f.result
+    c.laws.ensures.adds c.laws.ensures.join (c.reserve-room.ensures.items ∙ c.new-items.ensures.items) f.ensures.reads f.ensures.memory c.in_err-take_all.ensures.err)))
 
 pub returns-in_err-checked-clause-err : goal.returns-in_err-checked-clause-err
 returns-in_err-checked-clause-err g c =
@@ -46,8 +46,8 @@ returns-in_err-checked-clause-err g c =
     err_so c.from_residual-in_err-checked.result
     (subst (λ (l : List ℕ). BreaksOff g.S.Item.FromFrame.Reads g.S.Sink.took c.args.sink.now c.take_all.new.sink c.args.feeder.now l) (sym (inv.3 ∙ ap (λ (l : List ℕ). inv.2 ++ l) cut))
     (breaks_further g.S.Item.FromFrame.Reads g.S.Sink.took c.args.sink.now c.loop-part.sink c.take_all.new.sink c.args.feeder.now c.loop-part.feeder inv.2 part (chunks_rest c.next.new.self) inv.4
-    (breaks_off g.S.Item.Format.Format.Adds g.S.Item.FromFrame.Reads g.S.Sink.took c.loop-part.sink c.take_all.new.sink c.loop-part.feeder f.new.self c.new-items.result.items f.new.out.items part f.result
-    c.laws.ensures.adds c.laws.ensures.join c.new-items.ensures.items f.ensures.reads f.ensures.memory (f.new.out.items, [], sym (append-nil f.new.out.items), c.in_ok-take_all.ensures.ok))))
+    (breaks_off g.S.Item.Format.Format.Adds g.S.Item.FromFrame.Reads g.S.Sink.took c.loop-part.sink c.take_all.new.sink c.loop-part.feeder f.new.self c.reserve-room.new.self.items f.new.out.items part f.result
+    c.laws.ensures.adds c.laws.ensures.join (c.reserve-room.ensures.items ∙ c.new-items.ensures.items) f.ensures.reads f.ensures.memory (f.new.out.items, [], sym (append-nil f.new.out.items), c.in_ok-take_all.ensures.ok))))
 
 pub returns-clause-ok : goal.returns-clause-ok
 returns-clause-ok g c =
