@@ -38,33 +38,80 @@ fn wanted(alloc: Global, host: &StateHost) -> Result<Vec<u8>, Fail> {
     Ok(text)
 }
 
+/// Which step a session takes, how many bytes it writes, and how many of its reply are left.
+type Taken = (Step, usize, u64);
+
+/// A step of a session. What it writes goes behind what was written.
+fn taken(
+    alloc: Global,
+    session: &mut Session<2>,
+    asked: &[u8],
+    host: &mut StateHost,
+    written: &mut Vec<u8>,
+) -> Result<Taken, Fail> {
+    let mut out = Vec::new(alloc);
+    let step = session.take(asked, false, &mut out, host);
+    written.extend_from_slice(&out)?;
+    Ok((step, out.len(), session.standing()))
+}
+
+/// Whether a step wrote a block of a long reply, of which so much is left.
+fn is_block((step, len, standing): Taken, left: usize) -> bool {
+    step == Step::Full && len > 65_536 && len < 65_700 && standing == left as u64
+}
+
+/// Whether a session answers with two blocks of a reply of so many bytes.
+fn begins(
+    alloc: Global,
+    session: &mut Session<2>,
+    host: &mut StateHost,
+    long: usize,
+    written: &mut Vec<u8>,
+) -> Result<bool, Fail> {
+    let mut asked = bytes_of(alloc, "00000002 01 13 00000002 01 11")?;
+    let mut is_so = true;
+    for _ in 0..2 {
+        let block = taken(alloc, session, &asked, host, written)?;
+        is_so = is_so && is_block(block, long.saturating_sub(written.len()));
+        asked.clear();
+    }
+    Ok(is_so)
+}
+
+/// Whether it answers with the last of it, and then what was asked behind.
+fn ends(
+    alloc: Global,
+    session: &mut Session<2>,
+    host: &mut StateHost,
+    long: usize,
+    written: &mut Vec<u8>,
+) -> Result<bool, Fail> {
+    let (last, _len, standing) = taken(alloc, session, &[], host, written)?;
+    let is_all = last == Step::Full && standing == 0 && written.len() == long;
+    let (behind, _len, _standing) = taken(alloc, session, &[], host, written)?;
+    Ok(is_all && behind == Step::GoesOn)
+}
+
+fn comes_in_pieces(
+    alloc: Global,
+    host: &mut StateHost,
+    long: usize,
+    written: &mut Vec<u8>,
+) -> Result<bool, Fail> {
+    let mut session = Session::new(alloc);
+    Ok(
+        begins(alloc, &mut session, host, long, written)?
+            && ends(alloc, &mut session, host, long, written)?,
+    )
+}
+
 #[test]
 fn a_long_reply_comes_in_pieces(rt: HostRuntime) -> Result<(), Fail> {
-    let alloc = rt.alloc();
-    let mut host = host(alloc)?;
-    let text = wanted(alloc, &host)?;
+    let mut host = host(rt.alloc())?;
+    let text = wanted(rt.alloc(), &host)?;
+    let mut written = Vec::new(rt.alloc());
     let long = text.len().saturating_sub(22);
-    let asked = bytes_of(alloc, "00000002 01 13 00000002 01 11")?;
-    let mut session: Session<2> = Session::new(alloc);
-    let mut written = Vec::new(alloc);
-    let mut out = Vec::new(alloc);
-    let mut step = session.take(&asked, false, &mut out, &mut host);
-    for _ in 0..2 {
-        assert!(rt; step == Step::Full);
-        assert!(rt; out.len() > 65_536 && out.len() < 65_700);
-        written.extend_from_slice(&out)?;
-        out.clear();
-        assert!(rt; session.standing() == long.saturating_sub(written.len()) as u64);
-        step = session.take(&[], false, &mut out, &mut host);
-    }
-    // The last of it, and nothing behind.
-    assert!(rt; step == Step::Full);
-    assert!(rt; session.standing() == 0);
-    written.extend_from_slice(&out)?;
-    assert!(rt; written.len() == long);
-    out.clear();
-    assert!(rt; session.take(&[], false, &mut out, &mut host) == Step::GoesOn);
-    written.extend_from_slice(&out)?;
+    assert!(rt; comes_in_pieces(rt.alloc(), &mut host, long, &mut written)?);
     assert!(rt; written == text);
     Ok(())
 }
