@@ -11,7 +11,7 @@ use Rattle.hk_model.specs.Replica.Fragments.{FragmentValue, cut}
 use Rattle.hk_model.specs.Replica.Rules.{join_result}
 use Rattle.hk_model.specs.World.Worlds.{ToldValue, outcome_by, delta_join}
 use Rattle.hk_model.specs.World.Worlds.ToldValue.{Refused}
-use Rattle.hk_laws.specs.Calls.{Gives, is_memory, is_first_outcome, is_memory_outcome}
+use Rattle.hk_acting.specs.Telling.{Gives, is_memory, is_first_outcome, is_memory_outcome}
 
 -- from the horizon on it is the join of what is cut
 pub joins_cut : (a b : Content) (base : ℕ) (f : FragmentValue) → b.horizon ≤ base → f ≡ cut b base → outcome_by a (join_result a f) ≡ delta_join a b base

@@ -6,7 +6,6 @@ pub mod MergeWithItself
 pub mod BuiltTransactions
 pub mod StepOnItems
 pub mod RunByEvents
-pub mod OutOfMemory
 pub mod TestedWrites
 pub mod TurnedCommits
 pub mod RefusedCommits

@@ -6,7 +6,8 @@ use Rattle.hk_model.specs.declared.told.Told.{Told}
 use Rattle.hk_model.specs.Replica.Content.{Content}
 use Rattle.hk_model.specs.Replica.Rules.{merge_result}
 use Rattle.hk_model.specs.World.Worlds.{both, at_number, outcome_by}
-use Rattle.hk_laws.specs.Calls.{Acts, Gives}
+use Rattle.hk_acting.specs.Telling.{Gives}
+use Rattle.hk_laws.specs.Calls.{Acts}
 use Rattle.hk_laws.proofs.AtNumber.{numbered_at, get_low, set_low, get_high, set_high}
 use Rattle.hk_laws.proofs.OneReplicaActs.{acts_on}
 

@@ -6,7 +6,8 @@ use Rattle.hk_model.specs.declared.told.Told.{Told}
 use Rattle.hk_model.specs.Replica.Content.{Content}
 use Rattle.hk_model.specs.World.Worlds.{ToldValue, both, at_number}
 use Rattle.hk_model.specs.World.Worlds.EventValue.{Prune}
-use Rattle.hk_laws.specs.Calls.{Acts, Gives, horizons_of, is_above, takes_memory_at}
+use Rattle.hk_acting.specs.Telling.{Gives}
+use Rattle.hk_laws.specs.Calls.{Acts, horizons_of, is_above, takes_memory_at}
 use Rattle.hk_laws.proofs.AtNumber.{mapped_at, numbered_at, renumbered_at, set_same}
 
 module _ (rs : List Content) (k i : ℕ) (e : i + 1 ≡ k) (l : i < length rs) where

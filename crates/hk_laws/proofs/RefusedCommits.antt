@@ -10,7 +10,8 @@ use Rattle.hk_model.specs.History.Commits.{writes_result, commit_result, committ
 use Rattle.hk_model.specs.Replica.Content.{Content}
 use Rattle.hk_model.specs.World.Worlds.{World, Replica, EventValue, after_commit}
 use Rattle.hk_model.specs.declared.write_op.WriteOp.{WriteOp}
-use Rattle.hk_laws.specs.Calls.{IsBuilt, refusal_of_transaction, is_first, is_memory, is_of_writes, is_first_outcome, horizons_of, may_lack, takes_memory_at, Happens, Turns}
+use Rattle.hk_acting.specs.Telling.{is_first, is_memory, is_first_outcome}
+use Rattle.hk_laws.specs.Calls.{IsBuilt, refusal_of_transaction, is_of_writes, horizons_of, may_lack, takes_memory_at, Happens, Turns}
 use Rattle.hk_laws.specs.Running.{Running, step_outcome}
 use Rattle.hk_model.specs.declared.told.Told.{Told}
 

@@ -4,7 +4,8 @@ use Rattle.hk_types.specs.Values.{ConfigValue}
 use Rattle.hk_model.specs.Replica.Content.{Content}
 use Rattle.hk_model.specs.World.Worlds.{World, EventValue, ToldValue, run, step, by_items, by_contents, new_items, new_contents}
 use Rattle.hk_model.proofs.World.Runs.{run_law_proof}
-use Rattle.hk_laws.specs.Calls.{is_memory_outcome, Steps}
+use Rattle.hk_acting.specs.Telling.{is_memory_outcome}
+use Rattle.hk_laws.specs.Calls.{Steps}
 use Rattle.hk_laws.specs.Running.{Running}
 use Rattle.hk_laws.specs.Runs.{answers, answered_events}
 

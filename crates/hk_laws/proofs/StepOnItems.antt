@@ -17,7 +17,8 @@ use Rattle.hk_model.specs.World.Worlds.EventValue.{Commit, MarkOf, Retire, Absor
 use Rattle.hk_model.specs.World.Worlds.ToldValue.{Absorbed, Done, Answered, Marked, Refused}
 use Rattle.hk_model.proofs.World.Runs.{step_law_proof}
 use Rattle.hk_query.specs.Memory.{takes_memory}
-use Rattle.hk_laws.specs.Calls.{Steps, StepsOf, horizons_of, is_first_outcome, item_horizons, may_lack, takes_memory_at}
+use Rattle.hk_acting.specs.Telling.{is_first_outcome}
+use Rattle.hk_laws.specs.Calls.{Steps, StepsOf, horizons_of, item_horizons, may_lack, takes_memory_at}
 use Rattle.hk_laws.proofs.RefusedCommits.{commit_lacks}
 use Rattle.hk_laws.specs.Running.{Running}
 

@@ -16,9 +16,10 @@ use Rattle.hk_primary.specs.Calls.{Tells, primary_after, verdict_of}
 use Rattle.hk_primary.specs.Log.{PrimaryValue}
 use Rattle.hk_primary.specs.Txns.{TxnValue}
 use Rattle.hk_primary.specs.Verdicts.{committed_after, accepted_after}
-use Rattle.hk_laws.specs.Calls.{Turns, is_memory, is_memory_outcome}
+use Rattle.hk_acting.specs.Telling.{is_memory, is_memory_outcome}
+use Rattle.hk_laws.specs.Calls.{Turns}
 use Rattle.hk_laws.specs.Running.{Running}
-use Rattle.hk_laws.proofs.OutOfMemory.{Passes}
+use Rattle.hk_acting.proofs.OutOfMemory.{Passes}
 use Rattle.std.specs.FinMap as finmap
 
 zero_clock : (n : ℕ) → n ≡ max 0 n

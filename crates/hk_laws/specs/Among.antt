@@ -13,7 +13,8 @@ use Rattle.hk_model.specs.World.Worlds.ToldValue.{Refused}
 use Rattle.hk_model.specs.declared.told.Told.{Told}
 use Rattle.hk_model.specs.declared.write_op.WriteOp.{WriteOp}
 use Rattle.hk_primary.specs.Txns.{TxnValue}
-use Rattle.hk_laws.specs.Calls.{Acts, is_first_outcome, is_memory}
+use Rattle.hk_acting.specs.Telling.{is_first_outcome, is_memory}
+use Rattle.hk_laws.specs.Calls.{Acts}
 
 -- the place of what stands under a number, counted from 0, if anything does
 abbrev pub IsPlace : {X : Type 0} → List X → ℕ → Option ℕ → Type 0

@@ -19,42 +19,8 @@ use Rattle.hk_model.specs.World.Worlds.EventValue.{Prune, Merge, FrontOf}
 use Rattle.hk_model.specs.World.Worlds.ToldValue.{Refused, Fronted, Answered, Absorbed}
 use Rattle.hk_query.specs.Memory.{takes_memory}
 use Rattle.hk_primary.specs.Log.{PrimaryValue}
+use Rattle.hk_acting.specs.Telling.{is_memory_outcome, is_repeated, is_first_outcome, Gives}
 use Rattle.hk_laws.specs.Running.{Running, step_outcome}
-
--- whether a refusal says that memory ran out
-abbrev pub is_memory : Refusal → Bool
-is_memory Memory = true
-is_memory _ = false
-
--- whether it is told that memory ran out
-abbrev pub is_memory_outcome : ToldValue → Bool
-is_memory_outcome (Refused why) = is_memory why
-is_memory_outcome _ = false
-
--- whether a refusal is one that is tested before anything grows
-abbrev pub is_first : Refusal → Bool
-is_first NoSuch = true
-is_first NoStream = true
-is_first (Retired stream) = true
-is_first (NotYet readable) = true
-is_first (TooOld horizon) = true
-is_first (Gap base readable) = true
-is_first (AheadOfMark readable) = true
-is_first _ = false
-
--- whether an item was known
-abbrev pub is_repeated : Took → Bool
-is_repeated Taken = false
-is_repeated Repeated = true
-
--- whether such a refusal is told, or what takes no memory: a front, a count, that there is no such row, or that an item
--- was known
-abbrev pub is_first_outcome : ToldValue → Bool
-is_first_outcome (Refused why) = is_first why
-is_first_outcome (Fronted horizon readable) = true
-is_first_outcome (Answered a) = not (takes_memory a)
-is_first_outcome (Absorbed took) = is_repeated took
-is_first_outcome _ = false
 
 -- the horizons of replicas
 abbrev pub horizons_of : List Content → List ℕ
@@ -76,16 +42,6 @@ takes_memory_at horizons (Prune replica time) = is_above (at_number horizons rep
 takes_memory_at horizons (Merge to from) = not (to == from)
 takes_memory_at horizons (FrontOf replica) = false
 takes_memory_at horizons _ = true
-
--- what was told, and what it left, are as expected; or memory ran out where nothing is expected that takes none, as a
--- refusal that is tested before anything grows, and nothing changed
-abbrev pub Gives : {W : Type 0} → ToldValue × W → W → W → Result Told Refusal → Type 0
-Gives expected old new (Ok outcome) = (told_seen outcome ≡ expected.0) × (new ≡ expected.1) × (is_memory_outcome (told_seen outcome) ≡ false)
-Gives expected old new (Err why) = (why ≡ Memory) × (new ≡ old) × (is_first_outcome expected.0 ≡ false)
-
--- a refusal is told, unless it says that memory ran out
-abbrev pub TellsRefusal : Refusal → Result Told Refusal → Type 0
-TellsRefusal why result = MatchResult result (λ outcome. (told_seen outcome ≡ Refused why) × (is_memory why ≡ false)) (λ e. (e ≡ Memory) × (why ≡ Memory))
 
 -- what a primary tells that is asked at a time
 abbrev pub asked_of : PrimaryValue → ℕ → Query → ToldValue

@@ -7,7 +7,8 @@ use Rattle.hk_model.specs.World.Events.{event_seen, told_seen}
 use Rattle.hk_model.specs.World.Worlds.{World, Replica, EventValue, ToldValue, step, run, by_items, new_items}
 use Rattle.hk_types.specs.declared.faults.Refusal.TheVariants.{Memory}
 use Rattle.hk_model.specs.World.Worlds.ToldValue.{Refused}
-use Rattle.hk_laws.specs.Calls.{is_memory_outcome, item_horizons, may_lack, takes_memory_at}
+use Rattle.hk_acting.specs.Telling.{is_memory_outcome}
+use Rattle.hk_laws.specs.Calls.{item_horizons, may_lack, takes_memory_at}
 
 -- the events that were not told that memory ran out
 abbrev pub answered_events : List EventValue → List ToldValue → List EventValue

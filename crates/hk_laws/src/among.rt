@@ -8,9 +8,8 @@ ghost use Rattle.hk_model.specs.World.Worlds.ToldValue.{Done};
 ghost use Rattle.hk_laws.specs.Among.{AbsorbsAt, JoinsBatch, JoinsDelta, MergesAt, PrunesAt, RefusesDelta};
 ghost use Rattle.hk_laws.specs.Calls.{horizons_of, takes_memory_at};
 
-use crate::acting::{self, refused};
-use crate::joining;
 use crate::lists::{all_there, copies, numbered, place_of};
+use hk_acting::refused;
 use hk_delta::delta_since;
 use hk_log::Item;
 use hk_model::Told;
@@ -33,7 +32,7 @@ pub(crate) fn absorb(
     let Some(item) = numbered(items, item) else {
         return Ok(Told::Refused(Refusal::NoSuch));
     };
-    acting::absorb(&mut replicas[place], item)
+    hk_acting::absorb(&mut replicas[place], item)
 }
 
 /// A replica is pruned to a time. To at most its oldest readable time it takes no memory.
@@ -48,7 +47,7 @@ pub(crate) fn prune(
     let Some(place) = place_of(replicas, replica) else {
         return Ok(Told::Refused(Refusal::NoSuch));
     };
-    acting::prune(&mut replicas[place], horizon)
+    hk_acting::prune(&mut replicas[place], horizon)
 }
 
 /// A replica joins the fragment of some items.
@@ -72,7 +71,7 @@ pub(crate) fn batch(
         Ok(items) => items,
         Err(_lack) => return Err(Refusal::Memory),
     };
-    joining::batch(alloc, config, &mut replicas[place], &items)
+    hk_acting::batch(alloc, config, &mut replicas[place], &items)
 }
 
 /// Why what another replica has applied since a time is refused before it is cut, if it is: the time is below its
@@ -112,7 +111,7 @@ pub(crate) fn delta(
         return Ok(Told::Refused(why));
     }
     match delta_since(alloc, &replicas[source], base) {
-        Ok(fragment) => joining::join(&mut replicas[target], &fragment),
+        Ok(fragment) => hk_acting::join(&mut replicas[target], &fragment),
         Err(why) => refused(why),
     }
 }
@@ -126,10 +125,10 @@ fn merge_apart(replicas: &mut [ReplicaState], to: usize, from: usize) -> Result<
 {
     if to < from {
         let (low, high) = replicas.split_at_mut(from);
-        return joining::merge(&mut low[to], &high[0]);
+        return hk_acting::merge(&mut low[to], &high[0]);
     }
     let (low, high) = replicas.split_at_mut(to);
-    joining::merge(&mut high[0], &low[from])
+    hk_acting::merge(&mut high[0], &low[from])
 }
 
 /// A replica is merged into another one. Merged into itself it does not change, and takes no memory.

@@ -5,13 +5,14 @@ ghost use Rattle.hk_types.specs.declared.faults.Refusal.TheVariants.{Memory};
 ghost use Rattle.hk_model.specs.World.Events.{told_seen};
 ghost use Rattle.hk_model.specs.World.Worlds.EventValue.{Commit, MarkOf, Retire, Absorb, Batch, Prune, Merge, Delta, Ask, FrontOf};
 ghost use Rattle.hk_laws.specs.Running.{step_outcome};
-ghost use Rattle.hk_laws.specs.Calls.{Happens, Turns, asked_of, refusal_of_transaction, is_memory_outcome, is_first_outcome};
+ghost use Rattle.hk_acting.specs.Telling.{is_memory_outcome, is_first_outcome};
+ghost use Rattle.hk_laws.specs.Calls.{Happens, Turns, asked_of, refusal_of_transaction};
 
-use crate::acting::{self, refused};
 use crate::among;
 use crate::building::{misbuilt, transaction};
 use crate::lists::numbered;
 use crate::world::World;
+use hk_acting::refused;
 use hk_model::{Query, Told, WriteOp};
 use hk_primary::Primary;
 use hk_types::{Refusal, StreamNo, Time};
@@ -149,7 +150,7 @@ impl World {
             return ask_primary(&self.primary, time, query);
         }
         match numbered(&self.replicas, u64::from(replica)) {
-            Some(state) => acting::ask(self.alloc, state, time, query),
+            Some(state) => hk_acting::ask(self.alloc, state, time, query),
             None => Ok(Told::Refused(Refusal::NoSuch)),
         }
     }
@@ -160,7 +161,7 @@ impl World {
         ensures heard { is_memory_outcome (told_seen result) ≡ false }
     {
         match numbered(&self.replicas, u64::from(replica)) {
-            Some(state) => acting::front(state),
+            Some(state) => hk_acting::front(state),
             None => Told::Refused(Refusal::NoSuch),
         }
     }

@@ -1,11 +1,9 @@
 //! A world of one primary and its replicas, moved by events, and the laws of replicas of one log.
 #![tactic(auto)]
 
-mod acting;
 mod among;
 mod building;
 mod events;
-mod joining;
 mod laws;
 mod lists;
 mod running;

@@ -7,7 +7,7 @@ use Rattle.hk_model.specs.Replica.Rules.{gather_result}
 use Rattle.hk_laws.specs.Calls.{act_on_one_of}
 use Rattle.hk_laws.proofs.AtNumber.{all_found, one_missing, both_none}
 use Rattle.hk_laws.proofs.OneReplicaActs.{acts_on, acts_not}
-use Rattle.hk_laws.proofs.OutOfMemory.{batch_first}
+use Rattle.hk_acting.proofs.OutOfMemory.{batch_first}
 use Rattle.hk_laws.proofs.among.batch.Goals as goal
 
 pub returns-then-not-all_there : goal.returns-then-not-all_there

@@ -4,7 +4,7 @@ use Rattle.hk_model.specs.declared.told.Told.TheVariants as outcome
 use Rattle.hk_model.specs.Replica.Content.{Content}
 use Rattle.hk_model.specs.World.Worlds.{ToldValue, at_number, delta_join}
 use Rattle.hk_model.specs.World.Worlds.ToldValue.{Refused}
-use Rattle.hk_laws.specs.Calls.{Gives, is_first_outcome}
+use Rattle.hk_acting.specs.Telling.{Gives, is_first_outcome}
 use Rattle.hk_laws.proofs.AtNumber.{numbered_at}
 use Rattle.hk_laws.proofs.OneReplicaActs.{acts_on, acts_not}
 use Rattle.hk_laws.proofs.Deltas.{joins_cut, refused_cut}

@@ -1,7 +1,7 @@
 use Rattle.std.proofs.Common.{◌≡◌, sym, ◌∙◌, ℕ, ◌≤◌, false, nat_cmp, arith}
 use Rattle.std.specs.Ordering.{is_lt}
 use Rattle.hk_model.specs.Replica.Content.{readable}
-use Rattle.hk_laws.proofs.OutOfMemory.{delta_first}
+use Rattle.hk_acting.proofs.OutOfMemory.{delta_first}
 use Rattle.hk_laws.proofs.among.delta_refusal.Goals as goal
 use Rattle.hk_laws.proofs.among.delta_refusal.Goals.{else-log-via-then-log+then-streams+else-lt-2, else-log-via-then-log+else-streams, else-log-via-else-log}
 

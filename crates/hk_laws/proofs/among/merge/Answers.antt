@@ -4,10 +4,10 @@ use Rattle.hk_types.specs.declared.faults.Refusal.{Refusal}
 use Rattle.hk_model.specs.Replica.Content.{Content}
 use Rattle.hk_model.specs.World.Worlds.{at_number, outcome_by}
 use Rattle.hk_model.specs.Replica.Rules.{merge_result}
-use Rattle.hk_laws.specs.Calls.{Gives, is_memory_outcome}
+use Rattle.hk_acting.specs.Telling.{Gives, is_memory_outcome}
 use Rattle.hk_laws.proofs.AtNumber.{numbered_at}
 use Rattle.hk_laws.proofs.OneReplicaActs.{acts_not}
-use Rattle.hk_laws.proofs.OutOfMemory.{on_err}
+use Rattle.hk_acting.proofs.OutOfMemory.{on_err}
 use Rattle.hk_laws.proofs.among.merge.Goals as goal
 
 pub returns-then-target-source-clause-merges : goal.returns-then-target-source-clause-merges

@@ -1,4 +1,4 @@
-use Rattle.hk_laws.proofs.OutOfMemory.{asked_err}
+use Rattle.hk_acting.proofs.OutOfMemory.{asked_err}
 use Rattle.hk_laws.proofs.events.ask_primary.Goals as goal
 
 pub returns-in-Err-clause-first : goal.returns-in-Err-clause-first

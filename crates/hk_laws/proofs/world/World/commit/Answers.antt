@@ -6,7 +6,8 @@ use Rattle.hk_model.specs.declared.write_op.WriteOp.{WriteOp}
 use Rattle.hk_model.specs.History.Histories.{Transaction}
 use Rattle.hk_model.specs.World.Worlds.{after_commit}
 use Rattle.hk_model.specs.World.Worlds.EventValue.{Commit}
-use Rattle.hk_laws.specs.Calls.{IsBuilt, is_memory}
+use Rattle.hk_acting.specs.Telling.{is_memory}
+use Rattle.hk_laws.specs.Calls.{IsBuilt}
 use Rattle.hk_laws.specs.Running.{Running}
 use Rattle.hk_laws.proofs.RefusedCommits.{barred_tells, barred_hears, open_first, turned}
 use Rattle.hk_laws.proofs.world.World.commit.Goals as goal

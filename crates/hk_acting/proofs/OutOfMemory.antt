@@ -1,12 +1,11 @@
 -- What is expected where memory ran out.
-use Rattle.std.proofs.Common.{◌≡◌, refl, sym, ap, ◌∙◌, subst, ℕ, ◌<◌, ◌≤◌, ◌⊎◌, ltb-true, eqb-true, inl, inr, Bool, true, false, cond, not, true≢false, ◌==◌, length, nat_lt, List, [], ◌∷◌, ◌||◌, arith, Option, None, Some, Ok, Err, Result, MatchResult, OnErr}
+use Rattle.std.proofs.Common.{◌≡◌, refl, sym, ap, ◌∙◌, ℕ, ◌<◌, ◌≤◌, ◌⊎◌, ltb-true, eqb-true, inl, inr, Bool, true, false, cond, not, true≢false, ◌==◌, length, nat_lt, List, [], ◌∷◌, ◌||◌, arith, Option, None, Some, Ok, Err, Result, MatchResult, OnErr}
 use Rattle.std.proofs.lemmas.Bool.Decides.{nat_tests}
 use Rattle.std.proofs.lemmas.Bool.{lt-ltb, le-ltb, ltb-false, eq-eqb}
 use Rattle.hk_types.specs.Values.{ConfigValue, same_row}
 use Rattle.hk_types.specs.declared.faults.Refusal.{Refusal}
 use Rattle.hk_types.specs.declared.faults.Refusal.TheVariants.{ForeignLog, WrongStreams, Gap, Conflict, TooOld, NotYet, Memory}
 use Rattle.hk_log.specs.declared.item.Item.{Item}
-use Rattle.hk_log.specs.declared.item.Item.TheVariants.{Commit, Closed}
 use Rattle.hk_model.specs.declared.told.Told.{Told}
 use Rattle.hk_model.specs.World.Events.{told_seen}
 use Rattle.hk_model.specs.Replica.Content.{Content, readable}
@@ -21,7 +20,7 @@ use Rattle.hk_model.specs.History.Facts.{row_facts, end_facts}
 use Rattle.hk_model.specs.World.Worlds.{ToldValue, asked_primary, readable_on_primary, delta_join, outcome_by, outcome_of_batch, outcome_of_reply}
 use Rattle.hk_model.specs.World.Worlds.ToldValue.{Answered, Refused}
 use Rattle.hk_query.specs.Memory.{asking_may_lack, takes_memory}
-use Rattle.hk_laws.specs.Calls.{Gives, is_first, is_first_outcome, is_memory, is_memory_outcome}
+use Rattle.hk_acting.specs.Telling.{Gives, is_first, is_first_outcome, is_memory, is_memory_outcome}
 
 -- a refusal was passed on, or it was out of memory
 abbrev pub Passes : Refusal → Result Told Refusal → Type 0

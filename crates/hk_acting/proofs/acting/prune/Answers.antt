@@ -2,8 +2,8 @@ use Rattle.std.proofs.Common.{refl, sym, true≢false}
 use Rattle.std.proofs.Math.Nat.{lt_of_not-le}
 use Rattle.hk_model.specs.Replica.Rules.{prune_result}
 use Rattle.hk_model.specs.World.Worlds.{outcome_by}
-use Rattle.hk_laws.proofs.OutOfMemory.{on_err, refusal_gives}
-use Rattle.hk_laws.proofs.acting.prune.Goals as goal
+use Rattle.hk_acting.proofs.OutOfMemory.{on_err, refusal_gives}
+use Rattle.hk_acting.proofs.acting.prune.Goals as goal
 
 pub returns-in-Err-clause-gives : goal.returns-in-Err-clause-gives
 returns-in-Err-clause-gives c =

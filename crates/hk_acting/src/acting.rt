@@ -8,7 +8,7 @@ ghost use Rattle.hk_model.specs.World.Events.{told_seen};
 ghost use Rattle.hk_model.specs.Replica.Rules as rules;
 ghost use Rattle.hk_model.specs.World.Worlds.{outcome_of_batch, outcome_by, outcome_of_reply, outcome_of_take};
 ghost use Rattle.hk_model.specs.World.Worlds.ToldValue.{Fronted};
-ghost use Rattle.hk_laws.specs.Calls.{Gives, TellsRefusal, is_memory_outcome, is_first_outcome};
+ghost use Rattle.hk_acting.specs.Telling.{Gives, TellsRefusal, is_memory_outcome, is_first_outcome};
 
 use hk_log::Item;
 use hk_model::{Query, Told};
@@ -17,7 +17,7 @@ use hk_types::{Config, Refusal, Time};
 use std::alloc::Global;
 
 /// The outcome of an event that is refused. `World::step` returns `Memory`.
-pub(crate) fn refused(why: Refusal) -> Result<Told, Refusal>
+pub fn refused(why: Refusal) -> Result<Told, Refusal>
     ensures { TellsRefusal why result }
 {
     match why {
@@ -27,8 +27,9 @@ pub(crate) fn refused(why: Refusal) -> Result<Told, Refusal>
 }
 
 /// A replica absorbs an item.
-pub(crate) fn absorb(state: &mut ReplicaState, item: &Item) -> Result<Told, Refusal>
-    ensures { Gives (outcome_of_take state.old (rules.take_result state.old item.now)) state.old state.new result }
+pub fn absorb(state: &mut ReplicaState, item: &Item) -> Result<Told, Refusal>
+    ensures { Gives (outcome_of_take state.old (rules.take_result state.old item.now))
+        state.old state.new result }
 {
     match state.absorb(item) {
         Ok(took) => Ok(Told::Took(took)),
@@ -37,8 +38,9 @@ pub(crate) fn absorb(state: &mut ReplicaState, item: &Item) -> Result<Told, Refu
 }
 
 /// A replica is pruned to a time. To at most its oldest readable time it takes no memory.
-pub(crate) fn prune(state: &mut ReplicaState, horizon: Time) -> Result<Told, Refusal>
-    ensures gives { Gives (outcome_by state.old (rules.prune_result state.old horizon)) state.old state.new result }
+pub fn prune(state: &mut ReplicaState, horizon: Time) -> Result<Told, Refusal>
+    ensures gives { Gives (outcome_by state.old (rules.prune_result state.old horizon))
+        state.old state.new result }
     ensures above { OnErr result (state.old.horizon < horizon) }
 {
     match state.prune(horizon) {
@@ -48,16 +50,13 @@ pub(crate) fn prune(state: &mut ReplicaState, horizon: Time) -> Result<Told, Ref
 }
 
 /// A replica is asked at a time.
-pub(crate) fn ask(
-    alloc: Global,
-    state: &ReplicaState,
-    time: Time,
-    query: &Query,
-) -> Result<Told, Refusal>
-    ensures ok { IfOk result (λ outcome. told_seen outcome ≡ outcome_of_reply (reply state.now time query.now)) }
+pub fn ask(alloc: Global, state: &ReplicaState, time: Time, query: &Query) -> Result<Told, Refusal>
+    ensures ok { IfOk result (λ outcome.
+        told_seen outcome ≡ outcome_of_reply (reply state.now time query.now)) }
     ensures heard { IfOk result (λ outcome. is_memory_outcome (told_seen outcome) ≡ false) }
     ensures err { IfErr result (λ why. why ≡ Memory) }
-    ensures first { OnErr result (is_first_outcome (outcome_of_reply (reply state.now time query.now)) ≡ false) }
+    ensures first { OnErr result
+        (is_first_outcome (outcome_of_reply (reply state.now time query.now)) ≡ false) }
 {
     match hk_query::ask(alloc, state, time, query) {
         Ok(answer) => Ok(Told::Answered(answer)),
@@ -66,7 +65,7 @@ pub(crate) fn ask(
 }
 
 /// A replica returns its range of readable times.
-pub(crate) fn front(state: &ReplicaState) -> Told
+pub fn front(state: &ReplicaState) -> Told
     ensures outcome { told_seen result ≡ Fronted state.now.horizon (readable state.now) }
     ensures heard { is_memory_outcome (told_seen result) ≡ false }
 {

@@ -1,8 +1,8 @@
 use Rattle.std.proofs.Common.{refl}
 use Rattle.hk_model.specs.Replica.Rules.{join_result}
 use Rattle.hk_model.specs.World.Worlds.{outcome_by}
-use Rattle.hk_laws.proofs.OutOfMemory.{refusal_gives}
-use Rattle.hk_laws.proofs.joining.join.Goals as goal
+use Rattle.hk_acting.proofs.OutOfMemory.{refusal_gives}
+use Rattle.hk_acting.proofs.joining.join.Goals as goal
 
 pub returns-in-Err : goal.returns-in-Err
 returns-in-Err c =

@@ -1,9 +1,9 @@
 use Rattle.std.proofs.Common.{refl, ap, sym, ◌∙◌}
 use Rattle.hk_model.specs.Replica.Rules.{gather_result}
 use Rattle.hk_model.specs.World.Worlds.{outcome_of_batch}
-use Rattle.hk_laws.specs.Calls.{is_first_outcome}
-use Rattle.hk_laws.proofs.OutOfMemory.{refusal_gives, batch_first}
-use Rattle.hk_laws.proofs.joining.batch.Goals as goal
+use Rattle.hk_acting.specs.Telling.{is_first_outcome}
+use Rattle.hk_acting.proofs.OutOfMemory.{refusal_gives, batch_first}
+use Rattle.hk_acting.proofs.joining.batch.Goals as goal
 
 pub returns-in-Err : goal.returns-in-Err
 returns-in-Err c =

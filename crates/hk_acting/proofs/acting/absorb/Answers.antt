@@ -4,9 +4,9 @@ use Rattle.hk_model.specs.declared.took.Took.{Took}
 use Rattle.hk_model.specs.Replica.Content.{Content}
 use Rattle.hk_model.specs.Replica.Rules.{take_result}
 use Rattle.hk_model.specs.World.Worlds.{outcome_of_take}
-use Rattle.hk_laws.specs.Calls.{is_first_outcome}
-use Rattle.hk_laws.proofs.OutOfMemory.{refusal_where}
-use Rattle.hk_laws.proofs.acting.absorb.Goals as goal
+use Rattle.hk_acting.specs.Telling.{is_first_outcome}
+use Rattle.hk_acting.proofs.OutOfMemory.{refusal_where}
+use Rattle.hk_acting.proofs.acting.absorb.Goals as goal
 
 pub returns-in-Err : goal.returns-in-Err
 returns-in-Err c =
