@@ -14,7 +14,8 @@ mod parts_host;
 mod sharing;
 mod stats;
 
-pub use hk_budgets::{Meters, PartsBudget, budget_law};
+pub use hk_budgets::{PartsBudget, budget_law};
+pub use hk_meters::Meters;
 pub use link_state::LinkState;
 pub use node_side::NodeSide;
 pub use outgoing_transfer::given_law;

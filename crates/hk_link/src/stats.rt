@@ -4,7 +4,7 @@ ghost use Rattle.std.specs.Prelude.{◌≡◌, ◌++◌, ◌∷◌, [], IfOk, On
 ghost use mathlib.Core.List.{IsPrefix};
 ghost use Rattle.hk_link.specs.NodeNumbers.{metric_of, sizes_metrics};
 
-use hk_budgets::Meters;
+use hk_meters::Meters;
 use hk_oplog::NodeSizes;
 use hk_values::{Metric, metric_names as names};
 use std::alloc::{AllocError, Global};

@@ -2,8 +2,8 @@
 
 ghost use Rattle.std.specs.Prelude.{◌≤◌};
 
-use crate::parts_budget::PartsBudget;
 use hk_answers::{Metric, metric_names as names};
+use hk_budgets::PartsBudget;
 use std::alloc::{AllocError, Global};
 use std::fs::File;
 use std::os::unix::fs::FileExt;
