@@ -15,12 +15,12 @@ use Rattle.hk_model.specs.Replica.Content.{Content, readable}
 use Rattle.hk_model.specs.Replica.Fragments.{cut}
 use Rattle.hk_codec.specs.Frames.{Adds, Feeds, KeepsFault, KeepsOnMemory, last_answer}
 use Rattle.hk_answers.specs.Answers.{keyed_text}
-use Rattle.hk_wire.specs.declared.reply.Reply.{Reply}
-use Rattle.hk_wire.specs.declared.reply.Reply.TheVariants as replied
-use Rattle.hk_wire.specs.declared.later_reply.LaterReply.{LaterReply}
-use Rattle.hk_wire.specs.declared.later_reply.LaterReply.TheVariants as later
-use Rattle.hk_wire.specs.declared.request.Request.{Request}
-use Rattle.hk_wire.specs.declared.request.Request.TheVariants as requests
+use Rattle.hk_messages.specs.declared.reply.Reply.{Reply}
+use Rattle.hk_messages.specs.declared.reply.Reply.TheVariants as replied
+use Rattle.hk_messages.specs.declared.later_reply.LaterReply.{LaterReply}
+use Rattle.hk_messages.specs.declared.later_reply.LaterReply.TheVariants as later
+use Rattle.hk_messages.specs.declared.request.Request.{Request}
+use Rattle.hk_messages.specs.declared.request.Request.TheVariants as requests
 use Rattle.hk_c.specs.declared.found.Found.{Found}
 use Rattle.hk_c.specs.declared.found.Bounds.{Bounds}
 use Rattle.hk_types.specs.Values.{ConfigValue}

@@ -1,9 +1,9 @@
 -- The lines that are printed of replies, each with its line feed.
 use Rattle.std.specs.Prelude.{ℕ, List, ◌++◌, length, codes}
 use Rattle.std.specs.Fmt.{decimal}
-use Rattle.hk_values.specs.Fragments.{WireFragment}
-use Rattle.hk_wire.specs.Replies.{ReplyValue}
-use Rattle.hk_wire.specs.Replies.ReplyValue.{Done, Front, Fragment, Answer, Refused, Later}
+use Rattle.hk_fragment_bytes.specs.Fragments.{WireFragment}
+use Rattle.hk_messages.specs.Replies.{ReplyValue}
+use Rattle.hk_messages.specs.Replies.ReplyValue.{Done, Front, Fragment, Answer, Refused, Later}
 use Rattle.hk_cli_lines.specs.Lines.{line_end, answer_lines, refusal_line, front_line}
 use Rattle.hk_cli_lines.specs.LaterReplies as later
 

@@ -4,7 +4,7 @@ ghost use Rattle.std.specs.Prelude.{◌≡◌, ◌++◌, length, OnOk};
 ghost use Rattle.std.specs.String.{string_bytes};
 ghost use Rattle.hk_model.specs.Replica.Pages.{page_seen};
 ghost use Rattle.hk_model.specs.Replica.StreamsTold.{streams_seen as seen};
-ghost use Rattle.hk_wire.specs.LaterReplies.{reply_seen};
+ghost use Rattle.hk_messages.specs.LaterReplies.{reply_seen};
 ghost use Rattle.hk_cli_lines.specs.LaterReplies as spec;
 
 use crate::line::{Printed, put_rows};

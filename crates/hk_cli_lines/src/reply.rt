@@ -2,7 +2,7 @@
 
 ghost use Rattle.std.specs.Prelude.{◌≡◌, ◌++◌, OnOk};
 ghost use Rattle.std.specs.String.{string_bytes};
-ghost use Rattle.hk_wire.specs.Replies.{reply_seen};
+ghost use Rattle.hk_messages.specs.Replies.{reply_seen};
 ghost use Rattle.hk_cli_lines.specs.Replies as spec;
 
 use crate::line::{Printed, put_front};

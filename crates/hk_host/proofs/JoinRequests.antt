@@ -5,9 +5,9 @@ use Rattle.hk_log.specs.declared.item.Item.{Item}
 use Rattle.hk_model.specs.Replica.Fragments.{FragmentValue}
 use Rattle.hk_model.specs.Replica.Rules.{gather_result}
 use Rattle.hk_delta.specs.Gathers.{Gathers}
-use Rattle.hk_wire.specs.declared.request.Request.{Request}
-use Rattle.hk_wire.specs.declared.request.Request.TheVariants.{Items, Front, Delta, Full, Ask, JoinThis, MergeThis, Prune, Feed, Later}
-use Rattle.hk_wire.specs.Replies.{ReplyValue, Refused}
+use Rattle.hk_messages.specs.declared.request.Request.{Request}
+use Rattle.hk_messages.specs.declared.request.Request.TheVariants.{Items, Front, Delta, Full, Ask, JoinThis, MergeThis, Prune, Feed, Later}
+use Rattle.hk_messages.specs.Replies.{ReplyValue, Refused}
 use Rattle.hk_oplog.specs.declared.op.NodeKind.{NodeKind}
 use Rattle.hk_oplog.specs.declared.op.Op.{Op}
 use Rattle.hk_oplog.specs.declared.op.Op.TheVariants.{Join}

@@ -1,9 +1,9 @@
 -- Which requests a host that only reads has no meaning for.
 use Rattle.std.proofs.Common.{ℕ, ◌≡◌, refl, List}
 use Rattle.hk_oplog.specs.declared.op.Op.{Op}
-use Rattle.hk_wire.specs.declared.request.Request.{Request}
-use Rattle.hk_wire.specs.declared.request.Request.TheVariants.{Items, Front, Delta, Full, Ask, JoinThis, MergeThis, Prune, Feed, Later}
-use Rattle.hk_wire.specs.Replies.{ReplyValue}
+use Rattle.hk_messages.specs.declared.request.Request.{Request}
+use Rattle.hk_messages.specs.declared.request.Request.TheVariants.{Items, Front, Delta, Full, Ask, JoinThis, MergeThis, Prune, Feed, Later}
+use Rattle.hk_messages.specs.Replies.{ReplyValue}
 use Rattle.hk_model.specs.declared.query.Query.{Query}
 use Rattle.hk_host.specs.Replying.{IsNoChange, IsReading}
 

@@ -13,7 +13,7 @@ use Rattle.hk_oplog.specs.Replay.{is_legal, replay}
 use Rattle.hk_oplog.proofs.LegalLists.{last_snoc}
 use Rattle.hk_node.specs.Changes.{all_of, ChangesSome, IsGiven, IsHandedOut, IsRefusedHold, Refuses}
 use Rattle.hk_node.specs.Guarded.{TakesSome}
-use Rattle.hk_wire.specs.Replies.{Done, Refused}
+use Rattle.hk_messages.specs.Replies.{Done, Refused}
 use Rattle.hk_host.specs.Replying.{IsChangeReply, IsTold}
 use Rattle.hk_host.proofs.ChangeReplies.{change_is}
 

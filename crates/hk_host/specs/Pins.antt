@@ -4,7 +4,7 @@ use mathlib.Core.List.{IsPrefix}
 use Rattle.hk_types.specs.declared.faults.FormFault.TheVariants.{BadKind}
 use Rattle.hk_types.specs.declared.faults.Refusal.{Refusal}
 use Rattle.hk_types.specs.declared.faults.Refusal.TheVariants.{Form}
-use Rattle.hk_wire.specs.Replies.{Done, Refused}
+use Rattle.hk_messages.specs.Replies.{Done, Refused}
 use Rattle.hk_oplog.specs.declared.op.Hold.{Hold}
 use Rattle.hk_oplog.specs.declared.op.NodeKind.{NodeKind}
 use Rattle.hk_oplog.specs.declared.op.Op.{Op}

@@ -8,11 +8,11 @@ use Rattle.hk_log.specs.declared.item.Item.{Item}
 use Rattle.hk_model.specs.declared.front.Front.{Front as FrontMarks}
 use Rattle.hk_model.specs.Replica.Fragments.{FragmentValue}
 use Rattle.hk_model.specs.Replica.Rules.{gather_result}
-use Rattle.hk_wire.specs.declared.reply.Reply.{Reply}
-use Rattle.hk_wire.specs.declared.request.Request.{Request}
-use Rattle.hk_wire.specs.declared.request.Request.TheVariants as asked
-use Rattle.hk_wire.specs.Replies.{ReplyValue, Done, Front, Refused, Later, reply_seen}
-use Rattle.hk_wire.specs.LaterReplies.{Fed, Refused as LaterRefused}
+use Rattle.hk_messages.specs.declared.reply.Reply.{Reply}
+use Rattle.hk_messages.specs.declared.request.Request.{Request}
+use Rattle.hk_messages.specs.declared.request.Request.TheVariants as asked
+use Rattle.hk_messages.specs.Replies.{ReplyValue, Done, Front, Refused, Later, reply_seen}
+use Rattle.hk_messages.specs.LaterReplies.{Fed, Refused as LaterRefused}
 use Rattle.hk_session.specs.Steps.{query_reply, fragment_reply}
 use Rattle.hk_oplog.specs.declared.op.NodeKind.{NodeKind}
 use Rattle.hk_oplog.specs.declared.op.Op.{Op}

@@ -5,8 +5,8 @@ use Rattle.hk_session.specs.Serving.{Serves}
 use Rattle.hk_session.specs.Values.{CountedValue}
 use Rattle.hk_oplog.specs.declared.op.NodeKind.{NodeKind}
 use Rattle.hk_oplog.specs.declared.op.Op.{Op}
-use Rattle.hk_wire.specs.declared.request.Request.{Request}
-use Rattle.hk_wire.specs.declared.reply.Reply.{Reply}
+use Rattle.hk_messages.specs.declared.request.Request.{Request}
+use Rattle.hk_messages.specs.declared.reply.Reply.{Reply}
 use Rattle.hk_link.specs.LaterReplying.{AreLetGo, MayReplyBoth}
 use Rattle.hk_link.specs.LinkStates.{LinkStateValue, LinkValue}
 use Rattle.hk_link.specs.NodeSides.{Sided}

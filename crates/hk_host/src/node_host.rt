@@ -6,7 +6,7 @@ ghost use mathlib.Core.List.{IsPrefix};
 ghost use Rattle.hk_model.specs.Replica.Rules.{gather_result};
 ghost use Rattle.hk_delta.specs.Gathers.{Gathers};
 ghost use Rattle.hk_types.specs.declared.faults.Refusal.TheVariants.{Unpublished};
-ghost use Rattle.hk_wire.specs.Replies.{reply_seen};
+ghost use Rattle.hk_messages.specs.Replies.{reply_seen};
 ghost use Rattle.hk_oplog.specs.declared.op.Op.{Op};
 ghost use Rattle.hk_oplog.specs.declared.op.Op.TheVariants.{Join, Prune as PruneTo};
 ghost use Rattle.hk_node.specs.Changes.{ChangesSome};

@@ -4,7 +4,7 @@ use Rattle.std.proofs.Math.Seq.{take-append_seam}
 use Rattle.std.proofs.lemmas.Grind.{take-set_at}
 use Rattle.std.proofs.lemmas.List.{length-set, take_all}
 use Rattle.hk_types.specs.declared.faults.Refusal.{Refusal}
-use Rattle.hk_wire.specs.LaterReplies.{ReplyValue, Refused}
+use Rattle.hk_messages.specs.LaterReplies.{ReplyValue, Refused}
 use Rattle.hk_oplog.specs.declared.op.Hold.{Hold}
 use Rattle.hk_link.specs.LinkStates.{LinkValue}
 use Rattle.hk_link.specs.LaterReplying.{AsksHold, AsksHoldInPlace, IsHeld, most_holds}

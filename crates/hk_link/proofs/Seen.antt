@@ -1,8 +1,8 @@
 -- What a seat has seen after a session begins with what it had seen before.
 use Rattle.std.proofs.Common.{ℕ, Option, ◌≡◌, List, [], ◌∷◌, ◌++◌, sym, ap, ◌∙◌, append_assoc, append-nil}
 use mathlib.Core.List.{IsPrefix}
-use Rattle.hk_wire.specs.declared.request.Request.{Request}
-use Rattle.hk_wire.specs.declared.reply.Reply.{Reply}
+use Rattle.hk_messages.specs.declared.request.Request.{Request}
+use Rattle.hk_messages.specs.declared.reply.Reply.{Reply}
 use Rattle.hk_session.specs.declared.ended.Ended.{Ended}
 use Rattle.hk_session.specs.Transcript.{Answers, Ends, SessionStep}
 use Rattle.hk_link.specs.NodeSides.{GoesOn, Sided}

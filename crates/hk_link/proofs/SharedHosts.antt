@@ -3,8 +3,8 @@ use Rattle.std.proofs.Common.{◌≡◌, ℕ, Bool, true, false, cond, eqb, List
 use Rattle.std.proofs.lemmas.Bool.{eqb-true}
 use Rattle.std.specs.List.{AllByRecursion}
 use mathlib.Core.List.{IsPrefix}
-use Rattle.hk_wire.specs.declared.request.Request.{Request}
-use Rattle.hk_wire.specs.declared.reply.Reply.{Reply}
+use Rattle.hk_messages.specs.declared.request.Request.{Request}
+use Rattle.hk_messages.specs.declared.reply.Reply.{Reply}
 use Rattle.hk_session.specs.Sessions.{SessionValue, Takes, Turn, Turns}
 use Rattle.hk_session.specs.Transcript.{Answers, May}
 use Rattle.hk_session.specs.declared.ended.Ended.TheVariants.{Clean, Fault, Memory, ReadFault, WriteFault}

@@ -6,8 +6,8 @@ use Rattle.hk_model.specs.Replica.Fragments.{FragmentValue}
 use Rattle.hk_fragment.specs.Parts.{Known}
 use Rattle.hk_fragment.specs.Heads.{facts_of, head_of, of_facts}
 use Rattle.hk_values.specs.Cutting.{count_within, fact_bytes, facts_of_parts, first_part, next_count, rest_after}
-use Rattle.hk_values.specs.Parts.{wire_head_of}
-use Rattle.hk_wire.specs.LaterReplies.{ReplyValue, Part, LastPart}
+use Rattle.hk_fragment_bytes.specs.Parts.{wire_head_of}
+use Rattle.hk_messages.specs.LaterReplies.{ReplyValue, Part, LastPart}
 use Rattle.hk_link.specs.LinkStates.{OutgoingValue, begun}
 use Rattle.hk_link.specs.GivenWhole.{IsGivenWhole, all_replies, facts_told, heads_told, replies_for}
 

@@ -4,8 +4,8 @@ use Rattle.hk_model.specs.Replica.Fragments.{FragmentValue}
 use Rattle.hk_fragment.specs.Parts.{Known}
 use Rattle.hk_fragment.specs.Heads.{facts_of, head_of}
 use Rattle.hk_values.specs.Cutting.{of_parts}
-use Rattle.hk_values.specs.Parts.{WireHead, wire_head_of}
-use Rattle.hk_wire.specs.LaterReplies.{ReplyValue, Part, LastPart}
+use Rattle.hk_fragment_bytes.specs.Parts.{WireHead, wire_head_of}
+use Rattle.hk_messages.specs.LaterReplies.{ReplyValue, Part, LastPart}
 use Rattle.hk_link.specs.LinkStates.{OutgoingValue, begun, giving_after, part_told}
 
 -- the replies to so many requests for a next part, as long as there is one

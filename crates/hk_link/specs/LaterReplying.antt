@@ -13,14 +13,14 @@ use Rattle.hk_model.specs.Replica.Pages.{PageValue}
 use Rattle.hk_fragment.specs.Parts.{Known}
 use Rattle.hk_fragment.specs.Heads.{HeadValue, of_facts}
 use Rattle.hk_fragment.specs.Assemblies.{rises}
-use Rattle.hk_wire.specs.declared.request.Request.{Request}
-use Rattle.hk_wire.specs.declared.request.Request.TheVariants as first_asked
-use Rattle.hk_wire.specs.declared.reply.Reply.{Reply}
-use Rattle.hk_wire.specs.declared.reply.Reply.TheVariants as first_told
-use Rattle.hk_wire.specs.Replies as first
-use Rattle.hk_wire.specs.declared.later_request.LaterRequest.{LaterRequest}
-use Rattle.hk_wire.specs.declared.later_request.LaterRequest.TheVariants as asked
-use Rattle.hk_wire.specs.LaterReplies.{ReplyValue, Done, Streams, Latest, Page, Added, Held, Ready, Stats, Tables, Refused, reply_seen}
+use Rattle.hk_messages.specs.declared.request.Request.{Request}
+use Rattle.hk_messages.specs.declared.request.Request.TheVariants as first_asked
+use Rattle.hk_messages.specs.declared.reply.Reply.{Reply}
+use Rattle.hk_messages.specs.declared.reply.Reply.TheVariants as first_told
+use Rattle.hk_messages.specs.Replies as first
+use Rattle.hk_messages.specs.declared.later_request.LaterRequest.{LaterRequest}
+use Rattle.hk_messages.specs.declared.later_request.LaterRequest.TheVariants as asked
+use Rattle.hk_messages.specs.LaterReplies.{ReplyValue, Done, Streams, Latest, Page, Added, Held, Ready, Stats, Tables, Refused, reply_seen}
 use Rattle.hk_oplog.specs.declared.op.Hold.{Hold}
 use Rattle.hk_oplog.specs.declared.sizes.NodeSizes.{NodeSizes}
 use Rattle.hk_oplog.specs.NodeContent.{NodeContent}

@@ -10,8 +10,8 @@ use Rattle.hk_fragment.specs.Parts.{Known}
 use Rattle.hk_fragment.specs.Heads.{facts_of, head_of}
 use Rattle.hk_fragment.specs.Assemblies.{known_code}
 use Rattle.hk_values.specs.Cutting.{SplitValue, facts_bytes, first_part, rest_after}
-use Rattle.hk_values.specs.Parts.{head_bytes, wire_head_of}
-use Rattle.hk_wire.specs.LaterReplies.{ReplyValue, Part, LastPart, Refused}
+use Rattle.hk_fragment_bytes.specs.Parts.{head_bytes, wire_head_of}
+use Rattle.hk_messages.specs.LaterReplies.{ReplyValue, Part, LastPart, Refused}
 use Rattle.hk_oplog.specs.declared.op.Hold.{Hold}
 
 -- ---- what a link keeps

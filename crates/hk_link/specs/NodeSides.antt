@@ -3,8 +3,8 @@ use Rattle.std.specs.Prelude.{ℕ, ◌==◌, if◌then◌else◌, List, Option, 
 use mathlib.Core.List.{IsPrefix}
 use Rattle.hk_types.specs.declared.faults.Refusal.{Refusal}
 use Rattle.hk_model.specs.Replica.Fragments.{FragmentValue}
-use Rattle.hk_wire.specs.declared.reply.Reply.{Reply}
-use Rattle.hk_wire.specs.declared.request.Request.{Request}
+use Rattle.hk_messages.specs.declared.reply.Reply.{Reply}
+use Rattle.hk_messages.specs.declared.request.Request.{Request}
 use Rattle.hk_oplog.specs.declared.op.Hold.{Hold}
 use Rattle.hk_oplog.specs.declared.op.Op.{Op}
 use Rattle.hk_oplog.specs.NodeContent.{NodeContent}

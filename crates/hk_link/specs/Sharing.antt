@@ -3,8 +3,8 @@ use Rattle.std.specs.Prelude.{◌≡◌, ℕ, ◌==◌, if◌then◌else◌, Boo
 use Rattle.std.specs.List.{AllByRecursion}
 use mathlib.Core.List.{IsPrefix}
 use Rattle.hk_model.specs.Replica.Past.{IsLater}
-use Rattle.hk_wire.specs.declared.request.Request.{Request}
-use Rattle.hk_wire.specs.declared.reply.Reply.{Reply}
+use Rattle.hk_messages.specs.declared.request.Request.{Request}
+use Rattle.hk_messages.specs.declared.reply.Reply.{Reply}
 use Rattle.hk_session.specs.Sessions.{SessionValue, Stands, StandsSo, Takes}
 use Rattle.hk_session.specs.Transcript.{Answers, May}
 use Rattle.hk_session.specs.declared.step.Step.{Step}

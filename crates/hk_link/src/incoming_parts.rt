@@ -1,7 +1,7 @@
 //! The chunks that came over a connection, with the room that is reserved for them.
 
 ghost use Rattle.std.specs.Prelude.{◌≡◌, [], IfSome};
-ghost use Rattle.hk_wire.specs.LaterReplies.{reply_seen};
+ghost use Rattle.hk_messages.specs.LaterReplies.{reply_seen};
 ghost use Rattle.hk_link.specs.LaterReplying.{TellsCome, no_room_for};
 ghost use Rattle.hk_link.specs.LinkStates.{weight, weight_counted};
 

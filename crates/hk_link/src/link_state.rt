@@ -3,7 +3,7 @@
 ghost use Rattle.std.specs.Prelude.{◌≡◌, ◌<◌, ◌≤◌, ◌-◌, ◌++◌, ◌∷◌, [], true, false, Ok, IfOk, MatchBool, OnErr, filter, length, take};
 ghost use mathlib.Core.List.{IsPrefix};
 ghost use Rattle.hk_types.specs.declared.faults.Refusal.TheVariants.{LinkFull};
-ghost use Rattle.hk_wire.specs.LaterReplies.{reply_seen};
+ghost use Rattle.hk_messages.specs.LaterReplies.{reply_seen};
 ghost use Rattle.hk_link.specs.LaterReplying.{AreLetGo, TellsCome, TellsFirst, TellsMore};
 ghost use Rattle.hk_link.specs.NodeNumbers.{sizes_metrics};
 ghost use Rattle.hk_link.specs.LinkStates.{fresh_state, held_by, is_other_hold, part_room, with_place};

@@ -2,7 +2,7 @@
 
 ghost use Rattle.std.specs.Prelude.{◌≡◌, ℕ, IfOk, IfErr, IfSome};
 ghost use Rattle.hk_types.specs.declared.faults.Refusal.TheVariants.{Memory};
-ghost use Rattle.hk_wire.specs.LaterReplies.{reply_seen};
+ghost use Rattle.hk_messages.specs.LaterReplies.{reply_seen};
 ghost use Rattle.hk_link.specs.GivenWhole.{IsGivenWhole};
 ghost use Rattle.hk_link.specs.LinkStates.{begun, giving_after, part_told, weight};
 

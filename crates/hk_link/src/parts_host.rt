@@ -3,7 +3,7 @@
 ghost use Rattle.std.specs.Prelude.{◌≡◌, ◌<◌, ◌==◌, ◌||◌, nat_le, true, length};
 ghost use mathlib.Core.List.{IsPrefix};
 ghost use Rattle.hk_fragment.specs.Heads.{of_facts};
-ghost use Rattle.hk_wire.specs.LaterReplies.{reply_seen};
+ghost use Rattle.hk_messages.specs.LaterReplies.{reply_seen};
 ghost use Rattle.hk_oplog.specs.Replay.{is_legal};
 ghost use Rattle.hk_link.specs.LaterReplying.{AreLetGo, AsksHoldInPlace, IsFirstReply, IsFull, IsHeld, IsLaterReply, IsOrMemory, IsReleased, JoinsMade, KeepsButCame, KeepsButGiving, KeepsCameAndHolds, KeepsOther, LetsGo, MayReplyBoth, RefusesCut, TellsCome, TellsLatest, TellsMore, TellsNumbers, TellsSizes, TellsTables, TellsWhole, change_seen, content_of, latest_reply, page_reply, ready_reply, streams_reply};
 ghost use Rattle.hk_link.specs.LinkStates.{fresh_state, link_of};

@@ -8,8 +8,8 @@ use Rattle.hk_model.specs.Replica.Content.{Content}
 use Rattle.hk_model.specs.Replica.Rules.{gather_result}
 use Rattle.hk_log.specs.declared.item.Item.{Item}
 use Rattle.hk_delta.specs.Joins.{JoinsItems}
-use Rattle.hk_wire.specs.declared.reply.Reply.{Reply}
-use Rattle.hk_wire.specs.Replies.{Refused}
+use Rattle.hk_messages.specs.declared.reply.Reply.{Reply}
+use Rattle.hk_messages.specs.Replies.{Refused}
 use Rattle.hk_session.specs.Values.{HostValue}
 use Rattle.hk_session.specs.Steps.{config_of, change_reply, change_may_lack, change_step, joined_if, IsGiven, Changes}
 

@@ -10,11 +10,11 @@ use Rattle.hk_types.specs.declared.faults.Refusal.TheVariants as refusals
 use Rattle.hk_frames.specs.Fields.{number}
 use Rattle.hk_frames.specs.Framing.{encoded}
 use Rattle.hk_codec.proofs.Lengths.{len32}
-use Rattle.hk_wire.specs.declared.request.Request.{Request}
-use Rattle.hk_wire.specs.declared.reply.Reply.{Reply}
+use Rattle.hk_messages.specs.declared.request.Request.{Request}
+use Rattle.hk_messages.specs.declared.reply.Reply.{Reply}
 use Rattle.hk_wire.specs.declared.reply_pieces.Place.{Place}
-use Rattle.hk_wire.specs.Replies.{ReplyValue, Later, reply_seen, reply_text, reply_body, reply_rest, is_encodable}
-use Rattle.hk_wire.proofs.Lengths.{refused_len, reply_rest_len}
+use Rattle.hk_messages.specs.Replies.{ReplyValue, Later, reply_seen, reply_text, reply_body, reply_rest, is_encodable}
+use Rattle.hk_messages.proofs.Lengths.{refused_len, reply_rest_len}
 use Rattle.hk_wire.proofs.ReplyPieces.{text_size}
 use Rattle.hk_session.specs.Said.{IsKeptAt, PutsPiece, reply_bytes, too_long}
 use Rattle.hk_session.specs.Transcript.{replies_bytes}

@@ -8,12 +8,12 @@ use Rattle.hk_codec.specs.Frames.{frame_at}
 use Rattle.hk_frames.specs.Fields.{check, byte_at, number_at, bytes_at}
 use Rattle.hk_answers.specs.Readers.{both, time_at, positive_at}
 use Rattle.hk_answers.specs.Queries.{query_at}
-use Rattle.hk_values.specs.Fragments.{fragment_at, whole_at}
-use Rattle.hk_values.specs.Parts.{head_at, whole_head_at, part_at}
-use Rattle.hk_wire.specs.declared.request.Request.{Request}
-use Rattle.hk_wire.specs.Messages.{version_of, is_read, head_at as message_head_at, message_at}
-use Rattle.hk_wire.specs.LaterRequests.{most_at, wait_at, page_at, change_of, request_of as later_request_of}
-use Rattle.hk_wire.specs.Requests.{frame_taken, item_frame_at, item_count_at, no_place, items_at, request_seen, request_meant, request_rest, IsRequestUpTo, request_of, request_at, ReadsRequests}
+use Rattle.hk_fragment_bytes.specs.Fragments.{fragment_at, whole_at}
+use Rattle.hk_fragment_bytes.specs.Parts.{head_at, whole_head_at, part_at}
+use Rattle.hk_messages.specs.declared.request.Request.{Request}
+use Rattle.hk_message_head.specs.Messages.{version_of, is_read, head_at as message_head_at, message_at}
+use Rattle.hk_messages.specs.LaterRequests.{most_at, wait_at, page_at, change_of, request_of as later_request_of}
+use Rattle.hk_messages.specs.Requests.{frame_taken, item_frame_at, item_count_at, no_place, items_at, request_seen, request_meant, request_rest, IsRequestUpTo, request_of, request_at, ReadsRequests}
 use Rattle.hk_session.proofs.NeverCut.{bind_whole, cond_whole, check_whole, Whole, framed_whole, never_cut}
 use Rattle.hk_session.proofs.NoTruncatedValue.{number_whole, byte_whole, bytes_whole, both_whole, barred_whole, made_whole, listed_whole, time_whole, item_whole, query_whole, fragment_whole, whole_whole, head_whole, whole_head_whole, part_whole, positive_whole}
 

@@ -12,8 +12,8 @@ use Rattle.hk_fragment.specs.Parts.{follows, is_valid_end}
 use Rattle.hk_answers.specs.Readers.{Reader, both, after, fault_where, mapped_value, by_kind, list_by, list_by_count, time_at, positive_at, stream_count_at}
 use Rattle.hk_answers.specs.Answers.{row_at as value_row_at}
 use Rattle.hk_answers.specs.Queries.{query_of, query_at}
-use Rattle.hk_values.specs.Fragments.{number_follows, extra_at, waiting_count_at, waiting_at, stream_of, stream_at, version_at, died_at, known_of, fact_at, least_closed_of, no_stream, bounds_at, streams_at, fragment_head_at, facts_at, fragment_at, whole_at}
-use Rattle.hk_values.specs.Parts.{head_at, whole_head_at, part_at}
+use Rattle.hk_fragment_bytes.specs.Fragments.{number_follows, extra_at, waiting_count_at, waiting_at, stream_of, stream_at, version_at, died_at, known_of, fact_at, least_closed_of, no_stream, bounds_at, streams_at, fragment_head_at, facts_at, fragment_at, whole_at}
+use Rattle.hk_fragment_bytes.specs.Parts.{head_at, whole_head_at, part_at}
 use Rattle.hk_session.proofs.NeverCut.{is_other, bind_whole, cond_whole, check_whole, Whole}
 
 -- ---- readers

@@ -7,11 +7,11 @@ use Rattle.hk_types.specs.declared.faults.Refusal.{Refusal}
 use Rattle.hk_types.specs.declared.faults.Refusal.TheVariants as refusals
 use Rattle.hk_frames.specs.Framing.{encoded}
 use Rattle.hk_codec.proofs.Lengths.{len32}
-use Rattle.hk_wire.specs.declared.reply.Reply.{Reply}
-use Rattle.hk_wire.specs.Replies.{ReplyValue, Refused, IsRefusedAs, reply_seen, reply_text, is_encodable}
+use Rattle.hk_messages.specs.declared.reply.Reply.{Reply}
+use Rattle.hk_messages.specs.Replies.{ReplyValue, Refused, IsRefusedAs, reply_seen, reply_text, is_encodable}
 use Rattle.hk_wire.specs.Pieces.{IsPlace}
 use Rattle.hk_wire.specs.declared.reply_pieces.Place.{Place}
-use Rattle.hk_wire.proofs.Lengths.{refused_len, reply_rest_len}
+use Rattle.hk_messages.proofs.Lengths.{refused_len, reply_rest_len}
 use Rattle.hk_session.specs.Said.{PutsPiece, fault_reply, refused_text, reply_bytes, too_long}
 
 fault_encoded : (f : FormFault) → is_encodable (Refused (refusals.Form f)) ≡ true

@@ -6,9 +6,9 @@ use Rattle.std.proofs.lemmas.List.{take_all}
 use Rattle.hk_types.specs.declared.faults.FormFault.{FormFault}
 use Rattle.hk_types.specs.declared.faults.FormFault.TheVariants.{Truncated}
 use Rattle.hk_frames.proofs.FrameStream.{fault_behind}
-use Rattle.hk_wire.specs.declared.request.Request.{Request}
-use Rattle.hk_wire.specs.declared.reply.Reply.{Reply}
-use Rattle.hk_wire.specs.Requests.{request_at, request_rest, IsRequestUpTo, ReadsRequests, AddsRequests}
+use Rattle.hk_messages.specs.declared.request.Request.{Request}
+use Rattle.hk_messages.specs.declared.reply.Reply.{Reply}
+use Rattle.hk_messages.specs.Requests.{request_at, request_rest, IsRequestUpTo, ReadsRequests, AddsRequests}
 use Rattle.hk_session.specs.Said.{refused_text}
 use Rattle.hk_session.specs.Transcript.{May, replies_bytes, fault_met, BeginsWith, IsAllOrCut}
 use Rattle.hk_session.specs.Sessions.{SessionValue, begun_bytes, Stands, IsResting, IsAtFault, ReadIn, Turn, Takes, EndedSo, StandsSo, Continues}

@@ -6,8 +6,8 @@ use Rattle.std.proofs.Math.Seq.{take-nil}
 use Rattle.std.proofs.lemmas.List.{length-append, take-append-drop}
 use Rattle.hk_types.specs.declared.faults.FormFault.{FormFault}
 use Rattle.hk_types.specs.declared.faults.FormFault.TheVariants.{Truncated}
-use Rattle.hk_wire.specs.declared.reply.Reply.{Reply}
-use Rattle.hk_wire.specs.Requests.{ReadsRequests}
+use Rattle.hk_messages.specs.declared.reply.Reply.{Reply}
+use Rattle.hk_messages.specs.Requests.{ReadsRequests}
 use Rattle.hk_session.specs.Said.{fault_reply, refused_text}
 use Rattle.hk_session.specs.Transcript.{May, replies_bytes, fault_of, IsProperPrefixOf, IsCut, Ends, SessionStep, Writes, Refuses, Concludes, IsMidway}
 use Rattle.hk_session.specs.Sessions.{SessionValue, begun_bytes, AreFew, Stands, IsResting, IsAtFault, Turn, Turns, EndedSo, Closes}

@@ -12,9 +12,9 @@ use Rattle.hk_frames.specs.Framing.{answer, encoded, Feeds, KeepsFault, KeepsOnM
 use Rattle.hk_frames.proofs.FrameStream.{pieces_join_as}
 use Rattle.hk_session.specs.declared.ended.Ended.{Ended}
 use Rattle.hk_session.specs.declared.ended.Ended.TheVariants.{Clean, Fault, Memory, ReadFault, WriteFault}
-use Rattle.hk_wire.specs.declared.request.Request.{Request}
-use Rattle.hk_wire.specs.declared.reply.Reply.{Reply}
-use Rattle.hk_wire.specs.Requests.{WrittenRequest, request_seen, request_meant, request_at, request_rest, IsRequestUpTo, ReadsRequests, AddsRequests}
+use Rattle.hk_messages.specs.declared.request.Request.{Request}
+use Rattle.hk_messages.specs.declared.reply.Reply.{Reply}
+use Rattle.hk_messages.specs.Requests.{WrittenRequest, request_seen, request_meant, request_at, request_rest, IsRequestUpTo, ReadsRequests, AddsRequests}
 use Rattle.hk_session.specs.Said.{reply_bytes, fault_reply, refused_text}
 use Rattle.hk_session.proofs.SaidReplies.{faults_told}
 use Rattle.hk_session.specs.Transcript.{May, Answers, replies_bytes, fault_of, fault_met, closing, BeginsWith, IsProperPrefixOf, IsCut, IsAllOrCut, Ends, SessionStep, Refuses, IsMidway, IsDone, IsStopped, Transcript, PartialTranscript, closing_bytes}

@@ -3,10 +3,10 @@ use Rattle.std.specs.Prelude.{◌≡◌, ◌<◌, ℕ, if◌then◌else◌, List
 use Rattle.hk_types.specs.declared.faults.FormFault.{FormFault}
 use Rattle.hk_types.specs.declared.faults.FormFault.TheVariants.{TooLong}
 use Rattle.hk_types.specs.declared.faults.Refusal.TheVariants as refusals
-use Rattle.hk_wire.specs.declared.reply.Reply.{Reply}
-use Rattle.hk_wire.specs.declared.reply.Reply.TheVariants as replied
-use Rattle.hk_wire.specs.LaterReplies as later
-use Rattle.hk_wire.specs.Replies.{ReplyValue, Refused, Later, reply_seen, reply_text, is_encodable}
+use Rattle.hk_messages.specs.declared.reply.Reply.{Reply}
+use Rattle.hk_messages.specs.declared.reply.Reply.TheVariants as replied
+use Rattle.hk_messages.specs.LaterReplies as later
+use Rattle.hk_messages.specs.Replies.{ReplyValue, Refused, Later, reply_seen, reply_text, is_encodable}
 use Rattle.hk_wire.specs.Pieces.{IsInside, IsPlace}
 use Rattle.hk_wire.specs.declared.reply_pieces.Place.{Place}
 

@@ -4,8 +4,8 @@ use Rattle.std.specs.Prelude.{◌≡◌, ◌⊎◌, ◌<◌, ◌+◌, ◌^◌, �
 use Rattle.std.specs.Io.KnownBytes.{Appends, Consumes}
 use Rattle.hk_types.specs.declared.faults.FormFault.{FormFault}
 use Rattle.hk_session.specs.declared.ended.Ended.{Ended}
-use Rattle.hk_wire.specs.declared.request.Request.{Request}
-use Rattle.hk_wire.specs.declared.reply.Reply.{Reply}
+use Rattle.hk_messages.specs.declared.request.Request.{Request}
+use Rattle.hk_messages.specs.declared.reply.Reply.{Reply}
 use Rattle.hk_session.specs.Values.{CountedValue}
 use Rattle.hk_session.specs.Sessions.{EndedSo, IsResting, SessionValue, Stands}
 use Rattle.hk_session.specs.Transcript.{Concludes, Ends, IsDone, IsMidway, IsProperPrefixOf, IsStopped, May, PartialTranscript, SessionStep, Transcript, Writes}

@@ -5,11 +5,11 @@ use Rattle.std.specs.List.{AllByRecursion}
 use Rattle.hk_types.specs.declared.faults.FormFault.{FormFault}
 use Rattle.hk_types.specs.declared.faults.Refusal.{Refusal}
 use Rattle.hk_frames.specs.Framing.{last_answer}
-use Rattle.hk_wire.specs.declared.request.Request.{Request}
-use Rattle.hk_wire.specs.declared.request.Request.TheVariants as asked
-use Rattle.hk_wire.specs.declared.later_request.LaterRequest.TheVariants as later
-use Rattle.hk_wire.specs.declared.reply.Reply.{Reply}
-use Rattle.hk_wire.specs.Requests.{ReadsRequests, AddsRequests}
+use Rattle.hk_messages.specs.declared.request.Request.{Request}
+use Rattle.hk_messages.specs.declared.request.Request.TheVariants as asked
+use Rattle.hk_messages.specs.declared.later_request.LaterRequest.TheVariants as later
+use Rattle.hk_messages.specs.declared.reply.Reply.{Reply}
+use Rattle.hk_messages.specs.Requests.{ReadsRequests, AddsRequests}
 use Rattle.hk_session.specs.Said.{refused_text}
 use Rattle.hk_session.specs.Transcript.{May, Answers, Ends, replies_bytes, fault_of, fault_met}
 use Rattle.hk_session.specs.declared.ended.Ended.{Ended}

@@ -11,11 +11,11 @@ use Rattle.hk_model.specs.Replica.Fragments.{FragmentValue, cut}
 use Rattle.hk_model.specs.Replica.Rules.{gather_result, join_result, prune_result}
 pub use Rattle.hk_delta.specs.Joins.{joined_if}
 use Rattle.hk_query.specs.Memory.{asking_may_lack}
-use Rattle.hk_wire.specs.declared.reply.Reply.{Reply}
-use Rattle.hk_wire.specs.declared.request.Request.{Request}
-use Rattle.hk_wire.specs.declared.request.Request.TheVariants as asked
-use Rattle.hk_values.specs.Fragments.{wire_fragment_of}
-use Rattle.hk_wire.specs.Replies.{ReplyValue, Done, Front, Fragment, Answer, Refused, reply_seen}
+use Rattle.hk_messages.specs.declared.reply.Reply.{Reply}
+use Rattle.hk_messages.specs.declared.request.Request.{Request}
+use Rattle.hk_messages.specs.declared.request.Request.TheVariants as asked
+use Rattle.hk_fragment_bytes.specs.Fragments.{wire_fragment_of}
+use Rattle.hk_messages.specs.Replies.{ReplyValue, Done, Front, Fragment, Answer, Refused, reply_seen}
 use Rattle.hk_session.specs.Values.{HostValue}
 
 -- the log of a content, and how many streams it has

@@ -5,9 +5,9 @@ use Rattle.std.specs.Io.KnownBytes.{Appends}
 use Rattle.hk_types.specs.declared.faults.FormFault.{FormFault}
 use Rattle.hk_types.specs.declared.faults.FormFault.TheVariants.{Truncated}
 use Rattle.hk_frames.specs.Framing.{encoded}
-use Rattle.hk_wire.specs.declared.request.Request.{Request}
-use Rattle.hk_wire.specs.declared.reply.Reply.{Reply}
-use Rattle.hk_wire.specs.Requests.{WrittenRequest, request_seen, request_meant, request_rest, IsRequestUpTo, ReadsRequests}
+use Rattle.hk_messages.specs.declared.request.Request.{Request}
+use Rattle.hk_messages.specs.declared.reply.Reply.{Reply}
+use Rattle.hk_messages.specs.Requests.{WrittenRequest, request_seen, request_meant, request_rest, IsRequestUpTo, ReadsRequests}
 use Rattle.hk_session.specs.Said.{reply_bytes, fault_reply, refused_text}
 use Rattle.hk_session.specs.declared.ended.Ended.{Ended}
 use Rattle.hk_session.specs.declared.ended.Ended.TheVariants.{Clean, Fault, Memory, ReadFault, WriteFault}

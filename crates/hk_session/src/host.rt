@@ -7,8 +7,8 @@ use hk_wire::{Reply, Request};
 /// Who answers the requests of a session. A request that a host has no meaning for is refused `Form(BadKind)`, and changes
 /// nothing.
 pub trait Host {
-    ghost use Rattle.hk_wire.specs.declared.request.Request.{Request};
-    ghost use Rattle.hk_wire.specs.declared.reply.Reply.{Reply};
+    ghost use Rattle.hk_messages.specs.declared.request.Request.{Request};
+    ghost use Rattle.hk_messages.specs.declared.reply.Reply.{Reply};
 
     /// From the first state the host may return this reply to the request and be left in the second state.
     ghost may: { Self → Request → Reply → Self → Type 0 };

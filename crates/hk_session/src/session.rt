@@ -35,8 +35,8 @@ impl<const LATEST: u8> Model for Session<LATEST> {
     ghost use Rattle.std.specs.Prelude.{◌≡◌};
     ghost use Rattle.hk_session.specs.Transcript.{fault_met};
     ghost use Rattle.hk_types.specs.contracts.faults.FormFault as form_fault;
-    ghost use Rattle.hk_wire.specs.contracts.request.Request as request;
-    ghost use Rattle.hk_wire.specs.contracts.reply.Reply as reply;
+    ghost use Rattle.hk_messages.specs.contracts.request.Request as request;
+    ghost use Rattle.hk_messages.specs.contracts.reply.Reply as reply;
     ghost use Rattle.hk_session.specs.Said.{IsKeptAt};
     ghost use Rattle.hk_session.specs.Sessions.{SessionValue, session_code};
 

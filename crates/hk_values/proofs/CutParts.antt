@@ -5,9 +5,9 @@ use Rattle.std.proofs.lemmas.List.{length-append, take-append-drop, take_all}
 use Rattle.std.proofs.lemmas.List.Concat.{flat_map-cons}
 use Rattle.std.proofs.lemmas.List.Elements.{All-nil, All-cons}
 use Rattle.hk_fragment.specs.Parts.{Known}
-use Rattle.hk_values.specs.Fragments.{fact_text}
+use Rattle.hk_fragment_bytes.specs.Fragments.{fact_text}
 use Rattle.hk_values.specs.Cutting.{fact_bytes, facts_bytes, count_within, next_count, first_part, rest_after, first_parts, parts_of, facts_of_parts, IsPart, IsNextPart, AreParts}
-use Rattle.hk_values.proofs.Lengths.{fact_text_len}
+use Rattle.hk_fragment_bytes.proofs.Lengths.{fact_text_len}
 
 bytes_cons : (e : Known) (facts : List Known) → facts_bytes (e ∷ facts) ≡ fact_bytes e + facts_bytes facts
 bytes_cons e facts = ap length (flat_map-cons fact_text e facts) ∙ length-append (fact_text e) (flat_map fact_text facts)

@@ -1,13 +1,2 @@
-pub mod FragmentsReadAgain
-pub mod Lengths
-pub mod ListsInOrder
-pub mod StreamRead
-pub mod ReadingLoops
-pub mod StreamsRead
-pub mod FactsRead
-pub mod WrittenFragments
-pub mod OneWireFragment
-pub mod FragmentFits
-pub mod PartsReadAgain
 pub mod CutParts
 pub mod OwnParts

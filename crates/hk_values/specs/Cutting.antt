@@ -8,7 +8,7 @@ use Rattle.hk_model.specs.Replica.Codes.{fragment_code}
 use Rattle.hk_fragment.specs.Parts.{Known}
 use Rattle.hk_fragment.specs.Heads.{HeadValue, facts_of, head_of, of_facts}
 use Rattle.hk_fragment.specs.Assemblies.{known_code}
-use Rattle.hk_values.specs.Fragments.{fact_text}
+use Rattle.hk_fragment_bytes.specs.Fragments.{fact_text}
 
 -- how many bytes a fact has in a message, its version key with it
 abbrev pub fact_bytes : Known → ℕ

@@ -1,4 +1,1 @@
-pub mod Fragments
-pub mod FragmentSteps
-pub mod Parts
 pub mod Cutting

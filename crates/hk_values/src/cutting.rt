@@ -3,7 +3,7 @@
 ghost use Rattle.std.specs.Prelude.{◌≡◌, ◌≤◌, length};
 ghost use Rattle.hk_values.specs.Cutting as spec;
 
-use crate::fragment_encoding::fact_len;
+use hk_fragment_bytes::fragment_encoding::fact_len;
 use hk_log::Version;
 use hk_types::VersionKey;
 

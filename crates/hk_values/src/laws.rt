@@ -6,7 +6,7 @@ ghost use Rattle.hk_model.specs.Replica.Fragments.{FragmentValue};
 ghost use Rattle.hk_fragment.specs.Parts.{Known};
 ghost use Rattle.hk_fragment.specs.Heads.{facts_of, head_of, of_facts, HeadValue};
 ghost use Rattle.hk_values.specs.Cutting.{parts_of, AreParts, of_parts, IsOfItsParts, IsPutTogether};
-ghost use Rattle.hk_values.specs.Fragments.{wire_fragment_of};
+ghost use Rattle.hk_fragment_bytes.specs.Fragments.{wire_fragment_of};
 
 use crate::split::Split;
 use hk_fragment::{Assembly, Fragment, copy_facts};

@@ -4,14 +4,11 @@
 #![tactic(auto)]
 
 mod cutting;
-pub mod fragment_encoding;
-pub mod fragment_head;
 pub mod fragment_reading;
 mod laws;
 pub mod part;
 mod split;
 
-pub use fragment_head::{FragmentHead, head_bytes};
 pub use hk_answers::{
     Metric, answer, field_len, metric_names, metrics, numbers, query, refusal, told,
 };

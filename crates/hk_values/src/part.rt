@@ -2,19 +2,19 @@
 
 ghost use Rattle.std.specs.Prelude.{◌≡◌, ◌≤◌, ◌^◌, true, length};
 ghost use Rattle.hk_frames.specs.Fields.{GivesOrRunsOut};
-ghost use Rattle.hk_values.specs.Fragments.{facts_text};
-ghost use Rattle.hk_values.specs.Parts as spec;
+ghost use Rattle.hk_fragment_bytes.specs.Fragments.{facts_text};
+ghost use Rattle.hk_fragment_bytes.specs.Parts as spec;
 
-use crate::fragment_encoding::facts_len;
 use crate::fragment_reading::read_facts;
 use hk_fragment::facts_fault;
+use hk_fragment_bytes::fragment_encoding::facts_len;
 use hk_frames::{Cursor, ReadError};
 use hk_log::Version;
 use hk_types::{Time, VersionKey};
 use std::alloc::Global;
 
 /// Reads the facts of a chunk behind their count.
-#[tactic(auto, unfolding(crate::specs::Parts::part_at))]
+#[tactic(auto, unfolding(hk_fragment_bytes::specs::Parts::part_at))]
 pub fn read_part(
     alloc: Global,
     cursor: &mut Cursor,

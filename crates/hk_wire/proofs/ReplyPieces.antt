@@ -13,16 +13,16 @@ use Rattle.hk_frames.proofs.ReadingSteps.{both as both_true}
 use Rattle.hk_types.specs.Values.{RowValue}
 use Rattle.hk_fragment.specs.Parts.{Known}
 use Rattle.hk_answers.specs.Answers.{keyed_text}
-use Rattle.hk_values.specs.Fragments.{fact_text}
+use Rattle.hk_fragment_bytes.specs.Fragments.{fact_text}
 use Rattle.hk_answers.specs.Pieces.{rows_of}
-use Rattle.hk_values.specs.Parts.{WireHead, head_text}
+use Rattle.hk_fragment_bytes.specs.Parts.{WireHead, head_text}
 use Rattle.hk_answers.specs.Told.{flag_text}
-use Rattle.hk_values.proofs.WrittenFragments.{fragment_parts}
+use Rattle.hk_fragment_bytes.proofs.WrittenFragments.{fragment_parts}
 use Rattle.hk_answers.proofs.AddedPieces.{answer_parts}
-use Rattle.hk_values.proofs.Lengths.{head_text_len}
-use Rattle.hk_wire.specs.Messages.{message_text}
-use Rattle.hk_wire.specs.LaterReplies as later
-use Rattle.hk_wire.specs.Replies.{ReplyValue, Fragment, Answer, Later, reply_kind, reply_body, reply_rest, reply_text, keeps_rules, is_encodable}
+use Rattle.hk_fragment_bytes.proofs.Lengths.{head_text_len}
+use Rattle.hk_message_head.specs.Messages.{message_text}
+use Rattle.hk_messages.specs.LaterReplies as later
+use Rattle.hk_messages.specs.Replies.{ReplyValue, Fragment, Answer, Later, reply_kind, reply_body, reply_rest, reply_text, keeps_rules, is_encodable}
 use Rattle.hk_wire.specs.declared.reply_pieces.Place.{Place}
 use Rattle.hk_wire.specs.Pieces.{later_front, later_rest, later_count, body_front, rest_from, count_of, AddsItems, AddsFront, IsInside, AddsPiece}
 

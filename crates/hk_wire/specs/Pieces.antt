@@ -6,13 +6,13 @@ use Rattle.hk_fragment.specs.Heads.{HeadValue}
 use Rattle.hk_fragment.specs.Parts.{Known}
 use Rattle.hk_frames.specs.Fields.{number}
 use Rattle.hk_answers.specs.Answers.{keyed_text}
-use Rattle.hk_values.specs.Fragments.{fact_text, fragment_front}
-use Rattle.hk_values.specs.Parts.{head_text, wire_head_of}
+use Rattle.hk_fragment_bytes.specs.Fragments.{fact_text, fragment_front}
+use Rattle.hk_fragment_bytes.specs.Parts.{head_text, wire_head_of}
 use Rattle.hk_answers.specs.Pieces.{rows_of, answer_front, page_front}
-use Rattle.hk_wire.specs.LaterReplies as later
-use Rattle.hk_wire.specs.declared.later_reply.LaterReply.{LaterReply}
-use Rattle.hk_wire.specs.declared.reply.Reply.{Reply}
-use Rattle.hk_wire.specs.Replies.{ReplyValue, Fragment, Answer, Later, reply_body, reply_seen, reply_text, is_encodable}
+use Rattle.hk_messages.specs.LaterReplies as later
+use Rattle.hk_messages.specs.declared.later_reply.LaterReply.{LaterReply}
+use Rattle.hk_messages.specs.declared.reply.Reply.{Reply}
+use Rattle.hk_messages.specs.Replies.{ReplyValue, Fragment, Answer, Later, reply_body, reply_seen, reply_text, is_encodable}
 use Rattle.hk_wire.specs.declared.reply_pieces.Place.{Place}
 
 -- how many facts or rows a reply has, between which its encoding is divided; the head of a last chunk counts as one more behind its

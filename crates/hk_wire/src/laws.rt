@@ -2,8 +2,8 @@
 
 ghost use Rattle.std.specs.Prelude.{ℕ, map};
 ghost use Rattle.hk_frames.specs.Framing.{OneEncoding, OneReading, PiecesJoin};
-ghost use Rattle.hk_wire.specs.Requests.{IsRequest, request_seen, request_text, ReadsRequests};
-ghost use Rattle.hk_wire.specs.Replies.{IsReply, reply_seen, reply_text, ReadsReplies};
+ghost use Rattle.hk_messages.specs.Requests.{IsRequest, request_seen, request_text, ReadsRequests};
+ghost use Rattle.hk_messages.specs.Replies.{IsReply, reply_seen, reply_text, ReadsReplies};
 
 /// No request has two encodings with the same versions of its item frames, no encoding is that of two requests or of
 /// other versions, and none begins another, be they of one version or of both.

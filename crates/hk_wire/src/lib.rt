@@ -7,27 +7,19 @@
 //! exactly those whose encodings the bytes begin with, and the first fault of what follows them.
 #![tactic(auto)]
 
-mod head;
-mod items;
-mod later_reply;
-mod later_reply_encoding;
-mod later_request;
-mod later_request_encoding;
 mod laws;
-mod reply;
 mod reply_encoding;
 mod reply_pieces;
-mod request;
 mod request_encoding;
 
-pub use later_reply::LaterReply;
-pub use later_request::{LaterRequest, MOST_MILLISECONDS};
+pub use hk_messages::{
+    LaterReply, LaterRequest, MOST_MILLISECONDS, Reply, ReplyFeeder, ReplyFormat, Request,
+    RequestFeeder, RequestFormat,
+};
 pub use laws::{
     one_reply_encoding, one_reply_reading, one_request_encoding, one_request_reading,
     reply_pieces_join, request_pieces_join,
 };
-pub use reply::{Reply, ReplyFeeder, ReplyFormat};
 pub use reply_encoding::encode_reply;
 pub use reply_pieces::{Place, encode_piece};
-pub use request::{Request, RequestFeeder, RequestFormat};
 pub use request_encoding::{encode_request, kind_of};

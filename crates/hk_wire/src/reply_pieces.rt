@@ -1,18 +1,18 @@
 //! The one encoding of a reply, in pieces.
 
 ghost use Rattle.std.specs.Prelude.{◌≡◌, ◌≤◌, ◌<◌, ◌+◌, ◌-◌, ◌^◌, ◌++◌, true, length, take, OnOk, OnErr, IfOk, IfErr, IfSome, IfNone};
-ghost use Rattle.hk_values.specs.Parts.{head_is_counted, wire_head_of};
-ghost use Rattle.hk_wire.specs.LaterReplies as later;
-ghost use Rattle.hk_wire.specs.Replies as replies;
+ghost use Rattle.hk_fragment_bytes.specs.Parts.{head_is_counted, wire_head_of};
+ghost use Rattle.hk_messages.specs.LaterReplies as later;
+ghost use Rattle.hk_messages.specs.Replies as replies;
 ghost use Rattle.hk_wire.specs.Pieces as spec;
 
-use crate::head::put_plain_head;
-use crate::later_reply::LaterReply;
-use crate::later_reply_encoding::put_later;
-use crate::reply::Reply;
-use crate::reply_encoding::{kind_of, put_body, reply_len};
+use crate::reply_encoding::reply_len;
 use hk_frames::{put_u32, put_u64};
 use hk_log::Version;
+use hk_message_head::head::put_plain_head;
+use hk_messages::later_reply_encoding::put_later;
+use hk_messages::reply_body::{kind_of, put_body};
+use hk_messages::{LaterReply, Reply};
 use hk_types::{FormFault, Refusal, VersionKey};
 use hk_values::FragmentHead;
 use hk_values::answer::{put_answer_front, put_answer_rows, put_rows_from, row_count};

@@ -1,17 +1,15 @@
 //! The encoding of a request.
 
-ghost use Rattle.std.specs.Prelude.{◌≡◌, ◌≤◌, ◌^◌, ◌++◌, true, length, take, OnOk, OnErr, IfErr, IfSome};
-ghost use Rattle.hk_wire.specs.Requests as requests;
+ghost use Rattle.std.specs.Prelude.{◌≡◌, ◌++◌, true, length, take, OnOk, OnErr, IfErr, IfSome};
+ghost use Rattle.hk_messages.specs.Requests as requests;
 
-use crate::head::{HEAD_BYTES, MOST_REST_BYTES, put_head};
-use crate::items::{MOST_ITEMS, items_len, put_items};
-use crate::later_request_encoding::{later_body_len, later_keeps_rules, later_kind, put_later};
-use crate::request::{ASK, DELTA, FEED, FRONT, FULL, ITEMS, JOIN_THIS, MERGE_THIS, PRUNE, Request};
-use hk_frames::put_u64;
+use hk_message_head::head::{HEAD_BYTES, MOST_REST_BYTES, put_head};
+use hk_messages::later_request_encoding::later_kind;
+use hk_messages::request::{
+    ASK, DELTA, FEED, FRONT, FULL, ITEMS, JOIN_THIS, MERGE_THIS, PRUNE, Request,
+};
+use hk_messages::request_body::{body_len, keeps_rules, put_body};
 use hk_types::{FormFault, Refusal};
-use hk_values::field_len::time_len;
-use hk_values::fragment_encoding::{fragment_len, is_counted, put_fragment};
-use hk_values::query::{put_query, query_len};
 use std::alloc::AllocError;
 
 /// The kind byte of a request, which gives its version: those of version 2 are from 48 on.
@@ -32,40 +30,8 @@ pub fn kind_of(request: &Request) -> u8
     }
 }
 
-/// Whether a request keeps the rules of its kind.
-fn keeps_rules(request: &Request) -> bool
-    ensures { result ≡ requests.keeps_rules (requests.request_seen request.now) }
-{
-    match request {
-        Request::Items(items) | Request::Feed(items) => items.len() <= MOST_ITEMS,
-        Request::JoinThis(fragment) => is_counted(fragment),
-        Request::MergeThis(fragment) => fragment.base().number() == 0 && is_counted(fragment),
-        Request::Later(later) => later_keeps_rules(later),
-        _ => true,
-    }
-}
-
-/// How many bytes the body of a request that keeps its rules has.
-#[tactic(auto, using(crate::proofs::Lengths::items_len, crate::proofs::Lengths::feed_len, crate::proofs::Lengths::ask_len, hk_codec::proofs::Lengths::len64))]
-fn body_len(request: &Request) -> u64
-    requires { requests.keeps_rules (requests.request_seen request.now) ≡ true }
-    ensures len { result ≡ length (requests.request_body (requests.as_written request.now)) }
-    ensures bound { result ≤ 2 ^ 61 }
-    ensures fits { requests.RequestFits (requests.as_written request.now) }
-{
-    match request {
-        Request::Items(items) | Request::Feed(items) => 4 + items_len(items),
-        Request::Front | Request::Full => 0,
-        Request::Delta { base } => time_len(*base),
-        Request::Ask { t, query } => time_len(*t) + query_len(query),
-        Request::JoinThis(fragment) | Request::MergeThis(fragment) => fragment_len(fragment),
-        Request::Prune { horizon } => time_len(*horizon),
-        Request::Later(later) => later_body_len(later),
-    }
-}
-
 /// How many bytes the rest of a request's frame has, or `None` where it has no encoding.
-#[tactic(auto, using(crate::proofs::EncodedMessages::keeps_same, crate::proofs::Lengths::request_rest_len))]
+#[tactic(auto, using(hk_messages::proofs::EncodedMessages::keeps_same, hk_messages::proofs::Lengths::request_rest_len))]
 fn request_len(request: &Request) -> Option<u32>
     ensures len { requests.IsLength request.now result }
     ensures rules { IfSome result (λ _. requests.keeps_rules (requests.request_seen request.now) ≡ true) }
@@ -81,29 +47,8 @@ fn request_len(request: &Request) -> Option<u32>
     Some(len as u32)
 }
 
-/// Adds the body of a request that keeps its rules.
-#[tactic(auto, using(std::proofs::Common::append_assoc, hk_frames::proofs::Prefix::kept_all, hk_frames::proofs::Prefix::kept_before, hk_frames::proofs::Prefix::kept_both))]
-fn put_body(out: &mut Vec<u8>, request: &Request) -> Result<(), AllocError>
-    requires { requests.keeps_rules (requests.request_seen request.now) ≡ true }
-    ensures ok { OnOk result (out.new.items ≡ out.old.items ++ requests.request_body (requests.as_written request.now)) }
-    ensures kept { OnErr result (take (length out.old.items) out.new.items ≡ out.old.items) }
-{
-    match request {
-        Request::Items(items) | Request::Feed(items) => put_items(out, items),
-        Request::Front | Request::Full => Ok(()),
-        Request::Delta { base } => put_u64(out, base.number()),
-        Request::Ask { t, query } => {
-            put_u64(out, t.number())?;
-            put_query(out, query)
-        }
-        Request::JoinThis(fragment) | Request::MergeThis(fragment) => put_fragment(out, fragment),
-        Request::Prune { horizon } => put_u64(out, horizon.number()),
-        Request::Later(later) => put_later(out, later),
-    }
-}
-
 /// Adds a request's frame, whose rest has so many bytes.
-#[tactic(auto, using(std::proofs::Common::append_assoc, hk_frames::proofs::Prefix::kept_all, hk_frames::proofs::Prefix::kept_before, hk_frames::proofs::Prefix::kept_both), unfolding(hk_frames::specs::Framing::encoded, crate::specs::Requests::request_rest))]
+#[tactic(auto, using(std::proofs::Common::append_assoc, hk_frames::proofs::Prefix::kept_all, hk_frames::proofs::Prefix::kept_before, hk_frames::proofs::Prefix::kept_both), unfolding(hk_frames::specs::Framing::encoded, hk_messages::specs::Requests::request_rest))]
 fn put_request(out: &mut Vec<u8>, request: &Request, rest: u32) -> Result<(), AllocError>
     requires len { rest ≡ requests.rest_length request.now }
     requires rules { requests.keeps_rules (requests.request_seen request.now) ≡ true }

@@ -1,5 +1,5 @@
 use Rattle.std.proofs.Common.{ℕ, List, ◌++◌, refl, ap, ◌∙◌}
-use Rattle.hk_wire.specs.Replies.{reply_seen, reply_text}
+use Rattle.hk_messages.specs.Replies.{reply_seen, reply_text}
 use Rattle.hk_session.specs.Said.{too_long}
 use Rattle.hk_session.proofs.SaidReplies.{refused_put, no_encoding}
 use Rattle.hk_session.proofs.sending.put_piece.Goals as goal

@@ -1,5 +1,5 @@
 use Rattle.std.proofs.Common.{Err, refl}
-use Rattle.hk_wire.specs.Requests.{AddsRequests}
+use Rattle.hk_messages.specs.Requests.{AddsRequests}
 use Rattle.hk_session.proofs.Transcripts.{took, took_fault, feeder_kept}
 use Rattle.hk_session.proofs.session.take_in.Goals as goal
 

@@ -1,10 +1,10 @@
 //! A host of its own.
 
 ghost use Rattle.std.specs.Prelude.{◌≡◌, ◌⊎◌};
-ghost use Rattle.hk_wire.specs.declared.reply.Reply.{Reply};
-ghost use Rattle.hk_wire.specs.declared.reply.Reply.TheVariants.{Done, Later};
-ghost use Rattle.hk_wire.specs.declared.later_reply.LaterReply.TheVariants.{Done as LaterDone};
-ghost use Rattle.hk_wire.specs.declared.request.Request.{Request};
+ghost use Rattle.hk_messages.specs.declared.reply.Reply.{Reply};
+ghost use Rattle.hk_messages.specs.declared.reply.Reply.TheVariants.{Done, Later};
+ghost use Rattle.hk_messages.specs.declared.later_reply.LaterReply.TheVariants.{Done as LaterDone};
+ghost use Rattle.hk_messages.specs.declared.request.Request.{Request};
 
 use hk_session::{Counted, Host, serve};
 use hk_tests_values::bytes_of;

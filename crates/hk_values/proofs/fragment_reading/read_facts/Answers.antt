@@ -1,8 +1,8 @@
 use Rattle.std.proofs.Common.{None}
 use Rattle.std.proofs.lemmas.Result.{err_from_is_err_and}
 use Rattle.hk_frames.proofs.ReadingLoop.{goes_on, ends, is_done}
-use Rattle.hk_values.specs.Fragments.{fact_at}
-use Rattle.hk_values.specs.FragmentSteps.{fact_list_at}
+use Rattle.hk_fragment_bytes.specs.Fragments.{fact_at}
+use Rattle.hk_fragment_bytes.specs.FragmentSteps.{fact_list_at}
 use Rattle.hk_values.proofs.fragment_reading.read_facts.Goals as goal
 
 pub returns-in_err-fact : goal.returns-in_err-fact

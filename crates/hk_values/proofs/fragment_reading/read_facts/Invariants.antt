@@ -1,5 +1,5 @@
 use Rattle.std.proofs.Common.{◌≡◌, ◌-◌, None}
-use Rattle.hk_values.specs.FragmentSteps.{fact_list_at}
+use Rattle.hk_fragment_bytes.specs.FragmentSteps.{fact_list_at}
 use Rattle.hk_frames.proofs.ReadingLoop.{with_front}
 use Rattle.hk_values.proofs.fragment_reading.read_facts.Given as goal
 

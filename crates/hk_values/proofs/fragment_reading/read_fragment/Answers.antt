@@ -1,4 +1,4 @@
-use Rattle.hk_values.proofs.FactsRead.{parts_stand, no_fragment_fault, fragment_read}
+use Rattle.hk_fragment_bytes.proofs.FactsRead.{parts_stand, no_fragment_fault, fragment_read}
 use Rattle.hk_values.proofs.fragment_reading.read_fragment.Goals as goal
 
 pub returns-in_err-fragment : goal.returns-in_err-fragment

@@ -1,4 +1,4 @@
-use Rattle.hk_values.proofs.OneWireFragment.{fragment_same}
+use Rattle.hk_fragment_bytes.proofs.OneWireFragment.{fragment_same}
 use Rattle.hk_values.proofs.laws.one_wire_fragment.Goals as goal
 
 pub returns : goal.returns

@@ -1,8 +1,8 @@
 use Rattle.std.proofs.Common.{arith}
 use Rattle.std.proofs.lemmas.List.Elements.{recursion_from_All}
-use Rattle.hk_values.specs.Fragments.{KnownFits}
-use Rattle.hk_values.proofs.Lengths.{facts_text_len}
-use Rattle.hk_values.proofs.PartsReadAgain.{part_fits}
+use Rattle.hk_fragment_bytes.specs.Fragments.{KnownFits}
+use Rattle.hk_fragment_bytes.proofs.Lengths.{facts_text_len}
+use Rattle.hk_fragment_bytes.proofs.PartsReadAgain.{part_fits}
 use Rattle.hk_values.proofs.part.part_len.Goals as goal
 
 pub returns-clause-len : goal.returns-clause-len

@@ -1,4 +1,4 @@
-use Rattle.hk_wire.proofs.EncodedMessages.{requests_read}
+use Rattle.hk_messages.proofs.EncodedMessages.{requests_read}
 use Rattle.hk_wire.proofs.laws.one_request_reading.Goals as goal
 
 pub returns : goal.returns

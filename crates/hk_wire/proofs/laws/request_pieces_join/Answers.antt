@@ -1,5 +1,5 @@
 use Rattle.hk_frames.proofs.FrameStream.{pieces_join_as}
-use Rattle.hk_wire.specs.Requests.{request_seen, request_meant, request_at, request_rest, IsRequestUpTo}
+use Rattle.hk_messages.specs.Requests.{request_seen, request_meant, request_at, request_rest, IsRequestUpTo}
 use Rattle.hk_wire.proofs.laws.request_pieces_join.Goals as goal
 
 pub returns : goal.returns

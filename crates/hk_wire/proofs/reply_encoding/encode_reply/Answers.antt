@@ -1,4 +1,4 @@
-use Rattle.hk_wire.proofs.EncodedMessages.{reply_begins}
+use Rattle.hk_messages.proofs.EncodedMessages.{reply_begins}
 use Rattle.hk_wire.proofs.reply_encoding.encode_reply.Goals as goal
 
 pub returns-clause-reads : goal.returns-clause-reads

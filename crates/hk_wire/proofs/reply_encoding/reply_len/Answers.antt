@@ -1,5 +1,5 @@
 use Rattle.std.proofs.Common.{rules}
-use Rattle.hk_wire.proofs.Lengths.{reply_rest_len}
+use Rattle.hk_messages.proofs.Lengths.{reply_rest_len}
 use Rattle.hk_wire.proofs.reply_encoding.reply_len.Goals as goal
 
 pub body_len-len-requires : goal.body_len-len-requires

@@ -1,5 +1,5 @@
 use Rattle.std.proofs.Common.{◌-◌, arith}
-use Rattle.hk_wire.specs.Replies.{reply_seen}
+use Rattle.hk_messages.specs.Replies.{reply_seen}
 use Rattle.hk_wire.proofs.ReplyPieces.{first_ends, front_size}
 use Rattle.hk_wire.proofs.reply_pieces.encode_first.Goals as goal
 

@@ -1,5 +1,5 @@
 use Rattle.std.proofs.Common.{◌-◌, arith}
-use Rattle.hk_wire.specs.Replies.{reply_seen}
+use Rattle.hk_messages.specs.Replies.{reply_seen}
 use Rattle.hk_wire.proofs.ReplyPieces.{next_ends, inside_rules, inside_size, items_size}
 use Rattle.hk_wire.proofs.reply_pieces.encode_next.Goals as goal
 

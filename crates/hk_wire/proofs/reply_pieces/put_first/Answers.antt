@@ -1,8 +1,8 @@
 use Rattle.std.proofs.Common.{ℕ, List, [], ◌++◌, ap, ◌∙◌}
 use Rattle.std.specs.Int.{w32}
 use Rattle.hk_frames.specs.Fields.{number}
-use Rattle.hk_wire.specs.Messages.{message_text}
-use Rattle.hk_wire.specs.Replies.{reply_seen}
+use Rattle.hk_message_head.specs.Messages.{message_text}
+use Rattle.hk_messages.specs.Replies.{reply_seen}
 use Rattle.hk_wire.specs.Pieces.{AddsItems, AddsFront}
 use Rattle.hk_wire.proofs.ReplyPieces.{front_added, if_ok}
 use Rattle.hk_wire.proofs.reply_pieces.put_first.Goals as goal

@@ -1,4 +1,4 @@
-use Rattle.hk_wire.proofs.EncodedMessages.{request_begins}
+use Rattle.hk_messages.proofs.EncodedMessages.{request_begins}
 use Rattle.hk_wire.proofs.request_encoding.encode_request.Goals as goal
 
 pub returns-clause-reads : goal.returns-clause-reads

@@ -1,7 +1,7 @@
 use Rattle.std.proofs.Common.{refl, inr, subst, sym, List}
 use Rattle.hk_log.specs.declared.item.Item.{Item}
 use Rattle.hk_session.specs.Steps.{gathered, with_items, MakesChange}
-use Rattle.hk_wire.specs.declared.request.Request.TheVariants.{Items}
+use Rattle.hk_messages.specs.declared.request.Request.TheVariants.{Items}
 use Rattle.hk_c.specs.Calls.{Taken}
 use Rattle.hk_c.specs.Values.{ReplicaValue}
 use Rattle.hk_c.proofs.replica.Replica.take.Goals as goal

@@ -1,5 +1,5 @@
 use Rattle.std.proofs.Common.{ap}
-use Rattle.hk_wire.specs.Replies.{Done}
+use Rattle.hk_messages.specs.Replies.{Done}
 use Rattle.hk_node.specs.Guarded.{TakesSome}
 use Rattle.hk_host.proofs.ChangeReplies.{counted_is, told_is}
 use Rattle.hk_host.proofs.WaitingChanges.{waiting_take}

@@ -1,6 +1,6 @@
 use Rattle.std.proofs.Common.{List, ap, subst, sym, ◌++◌, ◌∙◌}
-use Rattle.hk_wire.specs.declared.request.Request.{Request}
-use Rattle.hk_wire.specs.Requests.{AddsRequests}
+use Rattle.hk_messages.specs.declared.request.Request.{Request}
+use Rattle.hk_messages.specs.Requests.{AddsRequests}
 use Rattle.hk_session.specs.Sessions.{SessionValue, ReadIn}
 use Rattle.hk_session.proofs.SessionStands.{met_fault, open_left, read_faulty, read_more}
 use Rattle.hk_session.proofs.session.Session.read.Goals as goal

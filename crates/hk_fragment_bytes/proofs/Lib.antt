@@ -1,0 +1,11 @@
+pub mod FragmentsReadAgain
+pub mod Lengths
+pub mod ListsInOrder
+pub mod StreamRead
+pub mod ReadingLoops
+pub mod StreamsRead
+pub mod FactsRead
+pub mod WrittenFragments
+pub mod OneWireFragment
+pub mod FragmentFits
+pub mod PartsReadAgain

@@ -1,0 +1,7 @@
+use Rattle.std.proofs.Common.{◌≡◌, ◌++◌, take, map}
+use Rattle.std.specs.List.{flat_map}
+use Rattle.hk_fragment_bytes.specs.Fragments as spec
+use Rattle.hk_fragment_bytes.proofs.fragment_encoding.put_streams.Given as goal
+
+abbrev pub invariant-loop-index : goal.invariant-loop-index
+invariant-loop-index l = l.out.items ≡ l.fn.out.items ++ flat_map spec.stream_text (map spec.wire_stream_of (take l.index l.got))

@@ -1,0 +1,4 @@
+pub mod LaterRequests
+pub mod Requests
+pub mod LaterReplies
+pub mod Replies
