@@ -26,8 +26,8 @@ KNOWN = {
         ("hk_state/src/learn.rt", "hk_state/src/learn.rt"): "the same of what is learnt",
     },
     "specs and proofs": {
+        ("hk_fragment_bytes/proofs/StreamRead.antt", "hk_marks/proofs/Prefixes.antt"): "the same of prefixes",
         ("hk_index/specs/TagOrder.antt", "hk_model/proofs/Replica/Maps.antt"): "an order of keys that stands apart in each crate, as a proof of another crate can't be cited",
-        ("hk_marks/proofs/Prefixes.antt", "hk_values/proofs/StreamRead.antt"): "the same of prefixes",
         ("hk_model/proofs/History/Commits.antt", "hk_primary/proofs/Verdicts.antt"): "the same of commits",
         ("hk_state/proofs/replica/ReplicaState/absorb_entry/Answers.antt", "hk_state/proofs/replica/ReplicaState/absorb_entry/Answers.antt"):
             "one answer for each of two ways out of a function",

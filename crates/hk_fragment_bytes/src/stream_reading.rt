@@ -39,7 +39,8 @@ fn read_bounds(cursor: &mut Cursor) -> Result<(Time, Time), FormFault>
 /// `BadStream`, a time above 2^62 and a base that is neither 0 nor at least the horizon `BadNumber`.
 #[tactic(auto, unfolding(hk_answers::specs::Readers::stream_count_at))]
 pub fn read_fragment_head(cursor: &mut Cursor) -> Result<Start, FormFault>
-    ensures read { GivesValue (λ x. (steps.head_seen x, cursor.new)) result (spec.fragment_head_at cursor.old) }
+    ensures read { GivesValue (λ x. (steps.head_seen x, cursor.new)) result
+        (spec.fragment_head_at cursor.old) }
     ensures above { IfOk result (λ x. ((x.base == 0) || nat_le x.horizon x.base) ≡ true) }
 {
     let log = cursor.u64()?;
@@ -217,7 +218,8 @@ pub fn read_got(
     config: Config,
     horizon: Time,
 ) -> Result<Got, ReadError>
-    ensures read { GivesOrRunsOut (λ x. (map spec.wire_stream_of x, cursor.new)) result (spec.streams_at horizon config.streams cursor.old) }
+    ensures read { GivesOrRunsOut (λ x. (map spec.wire_stream_of x, cursor.new)) result
+        (spec.streams_at horizon config.streams cursor.old) }
     ensures all { IfOk result (λ x. length x ≡ config.streams) }
     ensures reach { IfOk result (λ x. horizon ≤ least_closed x) }
 {

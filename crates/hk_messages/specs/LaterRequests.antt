@@ -1,11 +1,11 @@
 -- Requests of version 2: their values, the encoding of their bodies and its reading.
 use Rattle.std.specs.Prelude.{ℕ, ◌^◌, ◌<◌, ◌≤◌, Bool, true, not, nat_le, ◌&&◌, ◌==◌, if◌then◌else◌, List, [], ◌++◌, Err}
 use Rattle.std.specs.Int.{w16, w32, w64}
-use Rattle.hk_types.specs.declared.faults.FormFault.TheVariants.{BadKind, BadCount, BadNumber}
+use Rattle.hk_types.specs.declared.faults.FormFault.TheVariants.{BadKind}
 use Rattle.hk_model.specs.declared.query.Query.{Query}
 use Rattle.hk_fragment.specs.Parts.{Known}
 use Rattle.hk_frames.specs.Fields.{number, number_at}
-use Rattle.hk_answers.specs.Readers.{Reader, both, fault_where, mapped_value, nothing, time_at, positive_at}
+use Rattle.hk_answers.specs.Readers.{Reader, both, mapped_value, nothing, time_at, positive_at}
 use Rattle.hk_answers.specs.Queries.{query_text, query_at, QueryFits}
 use Rattle.hk_fragment_bytes.specs.Fragments.{facts_text}
 use Rattle.hk_fragment_bytes.specs.Parts.{WireHead, wire_head_of, head_text, head_at, whole_head_at, head_is_counted, HeadFits, part_at, part_keeps_rules, PartFits}

@@ -5,8 +5,8 @@ ghost use Rattle.hk_messages.specs.LaterRequests as spec;
 
 use hk_frames::{Cursor, ReadError};
 use hk_log::Version;
-use hk_model::Query;
 use hk_message_head::limits::{read_most, read_wait};
+use hk_model::Query;
 use hk_types::{FormFault, Key, Table, Time, VersionKey};
 use hk_values::FragmentHead;
 use hk_values::fragment_head::{read_head, read_whole_head};

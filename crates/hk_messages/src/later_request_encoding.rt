@@ -4,8 +4,8 @@ ghost use Rattle.std.specs.Prelude.{◌≡◌, ◌<◌, ◌≤◌, ◌^◌, ◌+
 ghost use Rattle.hk_messages.specs.LaterRequests as spec;
 
 use crate::later_request::{
-    ADD_PART, ASK_LATEST, AWAIT, HOLD, JOIN_PARTS, LaterRequest, MERGE_PARTS, MORE,
-    PAGE, RELEASE, STATS, STREAMS, TABLES, WHOLE,
+    ADD_PART, ASK_LATEST, AWAIT, HOLD, JOIN_PARTS, LaterRequest, MERGE_PARTS, MORE, PAGE, RELEASE,
+    STATS, STREAMS, TABLES, WHOLE,
 };
 use hk_frames::{put_u16, put_u32, put_u64};
 use hk_message_head::limits::MOST_MILLISECONDS;

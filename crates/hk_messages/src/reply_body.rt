@@ -63,7 +63,8 @@ pub fn body_len(reply: &Reply) -> u64
 #[tactic(auto, using(std::proofs::Common::append_assoc, hk_frames::proofs::Prefix::kept_all, hk_frames::proofs::Prefix::kept_before, hk_frames::proofs::Prefix::kept_both))]
 pub fn put_body(out: &mut Vec<u8>, reply: &Reply) -> Result<(), AllocError>
     requires { replies.keeps_rules (replies.reply_seen reply.now) ≡ true }
-    ensures ok { OnOk result (out.new.items ≡ out.old.items ++ replies.reply_body (replies.reply_seen reply.now)) }
+    ensures ok { OnOk result (out.new.items
+        ≡ out.old.items ++ replies.reply_body (replies.reply_seen reply.now)) }
     ensures kept { OnErr result (take (length out.old.items) out.new.items ≡ out.old.items) }
 {
     match reply {

@@ -48,7 +48,8 @@ pub fn body_len(request: &Request) -> u64
 #[tactic(auto, using(std::proofs::Common::append_assoc, hk_frames::proofs::Prefix::kept_all, hk_frames::proofs::Prefix::kept_before, hk_frames::proofs::Prefix::kept_both))]
 pub fn put_body(out: &mut Vec<u8>, request: &Request) -> Result<(), AllocError>
     requires { requests.keeps_rules (requests.request_seen request.now) ≡ true }
-    ensures ok { OnOk result (out.new.items ≡ out.old.items ++ requests.request_body (requests.as_written request.now)) }
+    ensures ok { OnOk result (out.new.items
+        ≡ out.old.items ++ requests.request_body (requests.as_written request.now)) }
     ensures kept { OnErr result (take (length out.old.items) out.new.items ≡ out.old.items) }
 {
     match request {
