@@ -27,11 +27,11 @@ use Rattle.hk_types.specs.Values.{ConfigValue}
 use Rattle.hk_types.specs.Numbers.{checked_config}
 use Rattle.hk_model.specs.Replica.Replicas.{empty_content}
 use Rattle.hk_query.specs.Memory.{asking_may_lack}
-use Rattle.hk_session.specs.Steps.{Step}
-use Rattle.hk_session.specs.Transcript.{Transcript, PartialTranscript, IsDone, IsStopped}
-use Rattle.hk_session.specs.Endings.{ended_number}
-use Rattle.hk_session.specs.declared.ended.Ended.{Ended}
-use Rattle.hk_session.specs.declared.ended.Ended.TheVariants.{ReadFault}
+use Rattle.hk_state_host.specs.Steps.{Step}
+use Rattle.hk_session_parts.specs.Transcript.{Transcript, PartialTranscript, IsDone, IsStopped}
+use Rattle.hk_session_parts.specs.Endings.{ended_number}
+use Rattle.hk_session_parts.specs.declared.ended.Ended.{Ended}
+use Rattle.hk_session_parts.specs.declared.ended.Ended.TheVariants.{ReadFault}
 use Rattle.hk_c.specs.Values.{ReplicaValue}
 
 -- no replica of this log was made: there is no such log, or memory ran out

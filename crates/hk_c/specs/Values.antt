@@ -3,7 +3,7 @@ use Rattle.std.specs.Prelude.{ℕ, refl, List, Result}
 use Rattle.std.specs.Coded.{Coded, code_by, coded×, coded_ℕ, coded_list, coded_result}
 use Rattle.hk_types.specs.declared.faults.FormFault.{FormFault}
 use Rattle.hk_types.specs.contracts.faults.FormFault as fault
-use Rattle.hk_session.specs.Values.{HostValue, host_code}
+use Rattle.hk_state_host.specs.Values.{HostValue, host_code}
 
 -- the value of a `Replica`: its host, what is cut off of its items or the fault that was met, and what it keeps to be
 -- copied

@@ -5,7 +5,7 @@ ghost use Rattle.std.specs.Option.{option_copied};
 ghost use Rattle.hk_types.specs.FaultNumbers.{refusal_number};
 ghost use Rattle.hk_model.specs.Replica.Answers.{answer_seen, One, Rows, Number};
 ghost use Rattle.hk_model.specs.declared.query.Query.TheVariants.{Get, Count};
-ghost use Rattle.hk_session.specs.declared.ended.Ended.TheVariants.{ReadFault};
+ghost use Rattle.hk_session_parts.specs.declared.ended.Ended.TheVariants.{ReadFault};
 ghost use Rattle.hk_c.specs.Calls.{Answered, IsNew, Lists, NotOpened, WhyNot, asked_reply, asks_rows};
 
 use crate::listing::put_rows;

@@ -13,7 +13,7 @@ use Rattle.hk_messages.specs.declared.request.Request.{Request}
 use Rattle.hk_messages.specs.declared.request.Request.TheVariants as asked
 use Rattle.hk_messages.specs.Replies.{ReplyValue, Done, Front, Refused, Later, reply_seen}
 use Rattle.hk_messages.specs.LaterReplies.{Fed, Refused as LaterRefused}
-use Rattle.hk_session.specs.Steps.{query_reply, fragment_reply}
+use Rattle.hk_state_host.specs.Steps.{query_reply, fragment_reply}
 use Rattle.hk_oplog.specs.declared.op.NodeKind.{NodeKind}
 use Rattle.hk_oplog.specs.declared.op.Op.{Op}
 use Rattle.hk_oplog.specs.declared.op.Op.TheVariants.{Join, Prune as PruneTo}

@@ -1,8 +1,8 @@
 -- What a session over a node and a seat of it does, by which the seat's list grows.
 use Rattle.std.specs.Prelude.{ℕ, List, Option}
-use Rattle.hk_session.specs.declared.ended.Ended.{Ended}
-use Rattle.hk_session.specs.Serving.{Serves}
-use Rattle.hk_session.specs.Values.{CountedValue}
+use Rattle.hk_session_parts.specs.declared.ended.Ended.{Ended}
+use Rattle.hk_session_parts.specs.Serving.{Serves}
+use Rattle.hk_session_parts.specs.Values.{CountedValue}
 use Rattle.hk_oplog.specs.declared.op.NodeKind.{NodeKind}
 use Rattle.hk_oplog.specs.declared.op.Op.{Op}
 use Rattle.hk_messages.specs.declared.request.Request.{Request}

@@ -5,7 +5,7 @@ ghost use mathlib.Core.List.{IsPrefix};
 ghost use Rattle.hk_types.specs.declared.faults.FormFault.TheVariants.{BadKind};
 ghost use Rattle.hk_types.specs.declared.faults.Refusal.TheVariants.{Form, Unpublished};
 ghost use Rattle.hk_messages.specs.Replies.{Refused, reply_seen};
-ghost use Rattle.hk_session.specs.Steps.{query_reply, fragment_reply};
+ghost use Rattle.hk_state_host.specs.Steps.{query_reply, fragment_reply};
 ghost use Rattle.hk_oplog.specs.Replay.{is_legal, replay};
 ghost use Rattle.hk_oplog.specs.Replies.{node_delta, node_front, node_reply, node_whole};
 ghost use Rattle.hk_host.specs.Replying.{IsOrOutOfMemory, MayOnlyRead, front_reply};

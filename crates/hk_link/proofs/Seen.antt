@@ -3,8 +3,8 @@ use Rattle.std.proofs.Common.{ℕ, Option, ◌≡◌, List, [], ◌∷◌, ◌++
 use mathlib.Core.List.{IsPrefix}
 use Rattle.hk_messages.specs.declared.request.Request.{Request}
 use Rattle.hk_messages.specs.declared.reply.Reply.{Reply}
-use Rattle.hk_session.specs.declared.ended.Ended.{Ended}
-use Rattle.hk_session.specs.Transcript.{Answers, Ends, SessionStep}
+use Rattle.hk_session_parts.specs.declared.ended.Ended.{Ended}
+use Rattle.hk_session_parts.specs.Transcript.{Answers, Ends, SessionStep}
 use Rattle.hk_link.specs.NodeSides.{GoesOn, Sided}
 
 pub same_prefix : {A : Type 0} (xs ys : List A) → ys ≡ xs → IsPrefix xs ys

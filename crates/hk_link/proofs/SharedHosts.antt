@@ -5,12 +5,12 @@ use Rattle.std.specs.List.{AllByRecursion}
 use mathlib.Core.List.{IsPrefix}
 use Rattle.hk_messages.specs.declared.request.Request.{Request}
 use Rattle.hk_messages.specs.declared.reply.Reply.{Reply}
-use Rattle.hk_session.specs.Sessions.{SessionValue, Takes, Turn, Turns}
-use Rattle.hk_session.specs.Transcript.{Answers, May}
-use Rattle.hk_session.specs.declared.ended.Ended.TheVariants.{Clean, Fault, Memory, ReadFault, WriteFault}
-use Rattle.hk_session.specs.declared.step.Step.{Step}
-use Rattle.hk_session.specs.declared.step.Step.TheVariants as steps
-use Rattle.hk_session.proofs.SessionStands.{continues_takes}
+use Rattle.hk_session_parts.specs.Sessions.{SessionValue, Takes, Turn, Turns}
+use Rattle.hk_session_parts.specs.Transcript.{Answers, May}
+use Rattle.hk_session_parts.specs.declared.ended.Ended.TheVariants.{Clean, Fault, Memory, ReadFault, WriteFault}
+use Rattle.hk_session_parts.specs.declared.step.Step.{Step}
+use Rattle.hk_session_parts.specs.declared.step.Step.TheVariants as steps
+use Rattle.hk_session_parts.proofs.SessionStands.{continues_takes}
 use Rattle.hk_oplog.specs.declared.op.Op.{Op}
 use Rattle.hk_link.specs.LaterReplying.{MayReplyBoth}
 use Rattle.hk_link.specs.LinkStates.{LinkValue, link_of}

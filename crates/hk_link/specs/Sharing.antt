@@ -5,9 +5,9 @@ use mathlib.Core.List.{IsPrefix}
 use Rattle.hk_model.specs.Replica.Past.{IsLater}
 use Rattle.hk_messages.specs.declared.request.Request.{Request}
 use Rattle.hk_messages.specs.declared.reply.Reply.{Reply}
-use Rattle.hk_session.specs.Sessions.{SessionValue, Stands, StandsSo, Takes}
-use Rattle.hk_session.specs.Transcript.{Answers, May}
-use Rattle.hk_session.specs.declared.step.Step.{Step}
+use Rattle.hk_session_parts.specs.Sessions.{SessionValue, Stands, StandsSo, Takes}
+use Rattle.hk_session_parts.specs.Transcript.{Answers, May}
+use Rattle.hk_session_parts.specs.declared.step.Step.{Step}
 use Rattle.hk_oplog.specs.declared.op.Op.{Op}
 use Rattle.hk_oplog.specs.Replay.{is_legal, replay}
 use Rattle.hk_link.specs.LaterReplying.{KeepsOther}

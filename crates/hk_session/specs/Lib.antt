@@ -1,7 +1,0 @@
-pub mod Endings
-pub mod Said
-pub mod Steps
-pub mod Transcript
-pub mod Sessions
-pub mod Serving
-pub mod Values

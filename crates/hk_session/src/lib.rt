@@ -6,21 +6,10 @@
 //! alone, 2 for both. Before an `Await` is answered a `Waiter` waits, of which nothing is promised.
 #![tactic(auto)]
 
-mod counted;
-mod ended;
-mod host;
-mod sending;
 mod serving;
-mod session;
-mod state_host;
-mod step;
-mod waiter;
+mod writing;
 
-pub use counted::Counted;
-pub use ended::Ended;
-pub use host::Host;
+pub use hk_session_parts::{AtOnce, Counted, Ended, Host, Step, Waiter};
+pub use hk_state_host::StateHost;
+pub use hk_turns::Session;
 pub use serving::{serve, serve_bytes, serve_waiting};
-pub use session::Session;
-pub use state_host::StateHost;
-pub use step::Step;
-pub use waiter::{AtOnce, Waiter};

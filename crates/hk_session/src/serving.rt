@@ -3,17 +3,13 @@
 ghost use Rattle.std.specs.Prelude.{◌≡◌, ◌≢◌, ◌<◌, ◌≤◌, ◌+◌, ◌^◌, Some};
 ghost use Rattle.std.specs.Io.KnownBytes.{IsAtEnd};
 ghost use Rattle.hk_types.specs.declared.faults.FormFault.TheVariants as faults;
-ghost use Rattle.hk_session.specs.declared.ended.Ended.TheVariants as ends;
-ghost use Rattle.hk_session.specs.Serving.{AnswersOn, ConcludesBy, FailsToRead, HandlesPiece, Serves, ServesAll, ServesPart, StepsBy, WritesAll, WritesPart};
-ghost use Rattle.hk_session.specs.Transcript.{Ends, fault_of};
+ghost use Rattle.hk_session_parts.specs.declared.ended.Ended.TheVariants as ends;
+ghost use Rattle.hk_session_parts.specs.Serving.{AnswersOn, ConcludesBy, FailsToRead, HandlesPiece, Serves, ServesAll, ServesPart, StepsBy, WritesAll, WritesPart};
+ghost use Rattle.hk_session_parts.specs.Transcript.{Ends, fault_of};
 
-use crate::counted::Counted;
-use crate::ended::Ended;
-use crate::host::Host;
-use crate::sending::write_out;
-use crate::session::Session;
-use crate::step::Step;
-use crate::waiter::{AtOnce, Waiter};
+use crate::writing::write_out;
+use hk_session_parts::{AtOnce, Counted, Ended, Host, Step, Waiter};
+use hk_turns::Session;
 use std::alloc::Global;
 use std::io::{Read, Write};
 

@@ -1,5 +1,5 @@
-use Rattle.hk_session.proofs.Transcripts.{no_end}
-use Rattle.hk_session.proofs.SpokenTurns.{nothing_spoken, spoken_more, spoken_all, spoken_ended, spoken_cut, less_left, is_between}
+use Rattle.hk_session_parts.proofs.Transcripts.{no_end}
+use Rattle.hk_session_parts.proofs.SpokenTurns.{nothing_spoken, spoken_more, spoken_all, spoken_ended, spoken_cut, less_left, is_between}
 use Rattle.hk_session.proofs.serving.answer_all.Goals as goal
 
 pub steps-init : goal.steps-init

@@ -1,6 +1,6 @@
 use Rattle.std.proofs.Common.{◌≡◌, []}
-use Rattle.hk_session.proofs.SessionTurns.{left_to_do}
-use Rattle.hk_session.proofs.SpokenTurns.{SpokenSoFar}
+use Rattle.hk_session_parts.proofs.SessionTurns.{left_to_do}
+use Rattle.hk_session_parts.proofs.SpokenTurns.{SpokenSoFar}
 use Rattle.hk_session.proofs.serving.answer_all.Given as goal
 
 abbrev pub invariant-steps : goal.invariant-steps

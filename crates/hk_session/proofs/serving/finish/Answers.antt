@@ -1,4 +1,4 @@
-use Rattle.hk_session.proofs.SpokenTurns.{concluded, concluded_cut}
+use Rattle.hk_session_parts.proofs.SpokenTurns.{concluded, concluded_cut}
 use Rattle.hk_session.proofs.serving.finish.Goals as goal
 
 pub returns-in-Some-clause-says : goal.returns-in-Some-clause-says

@@ -1,9 +1,9 @@
 use Rattle.std.proofs.Common.{List, [], ℕ, sym, subst, append-nil, ◌++◌, ◌∙◌}
 use Rattle.std.proofs.KnownBytes.{Appends-nil}
-use Rattle.hk_session.specs.Sessions.{EndedSo}
-use Rattle.hk_session.specs.declared.ended.Ended.TheVariants.{Memory}
-use Rattle.hk_session.proofs.SessionTurns.{at_ok}
-use Rattle.hk_session.proofs.SessionStands.{ended_memory, stands_read}
+use Rattle.hk_session_parts.specs.Sessions.{EndedSo}
+use Rattle.hk_session_parts.specs.declared.ended.Ended.TheVariants.{Memory}
+use Rattle.hk_session_parts.proofs.SessionTurns.{at_ok}
+use Rattle.hk_session_parts.proofs.SessionStands.{ended_memory, stands_read}
 use Rattle.hk_session.proofs.serving.handle_piece.Goals as goal
 
 pub returns-then-is_err-clause-speaks : goal.returns-then-is_err-clause-speaks

@@ -1,8 +1,8 @@
 use Rattle.std.proofs.Common.{[]}
 use Rattle.std.proofs.KnownBytes.{Appends-nil}
-use Rattle.hk_session.proofs.Transcripts.{no_read_fault}
-use Rattle.hk_session.proofs.SessionStands.{stands_start}
-use Rattle.hk_session.proofs.SpokenTurns.{ended_midway, finished}
+use Rattle.hk_session_parts.proofs.Transcripts.{no_read_fault}
+use Rattle.hk_session_parts.proofs.SessionStands.{stands_start}
+use Rattle.hk_session_parts.proofs.SpokenTurns.{ended_midway, finished}
 use Rattle.hk_session.proofs.serving.run_bytes.Goals as goal
 
 pub returns-in-None-clause-transcript : goal.returns-in-None-clause-transcript

@@ -1,4 +1,4 @@
-use Rattle.hk_session.proofs.Transcripts.{transcripts, partial_transcript}
+use Rattle.hk_session_parts.proofs.Transcripts.{transcripts, partial_transcript}
 use Rattle.hk_session.proofs.serving.serve_bytes.Goals as goal
 
 pub returns-clause-whole : goal.returns-clause-whole

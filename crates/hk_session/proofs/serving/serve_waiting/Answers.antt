@@ -1,8 +1,8 @@
 use Rattle.std.proofs.Common.{arith, rules, ◌∙◌, ◌++◌, [], take}
-use Rattle.std.proofs.KnownBytes.{Appends-nil, Appends-trans, Consumes-nil, Consumes-trans}
-use Rattle.hk_session.proofs.Transcripts.{no_end, no_read_fault, none_read, not_clean, not_cut}
-use Rattle.hk_session.proofs.SessionStands.{stands_start}
-use Rattle.hk_session.proofs.SpokenTurns.{ended_midway, finished}
+use Rattle.std.proofs.KnownBytes.{Appends-nil, Appends-trans, Consumes-kept, Consumes-nil, Consumes-trans}
+use Rattle.hk_session_parts.proofs.Transcripts.{no_end, no_read_fault, none_read, not_clean, not_cut}
+use Rattle.hk_session_parts.proofs.SessionStands.{stands_start}
+use Rattle.hk_session_parts.proofs.SpokenTurns.{ended_midway, finished, stopped}
 use Rattle.hk_session.proofs.serving.serve_waiting.Goals as goal
 
 pub loop-init : goal.loop-init
@@ -62,3 +62,11 @@ pub returns-in-Some-clause-read_fault : goal.returns-in-Some-clause-read_fault
 returns-in-Some-clause-read_fault g c is =
     let inv = c.loop.invariant.4 in
     absurd (no_read_fault c.in-Some.ended (c.in-Some.ensures.speaks c.args.host.now inv.0 inv.2 inv.4).2.1 is)
+
+pub returns-in-Err-clause-transcript : goal.returns-in-Err-clause-transcript
+returns-in-Err-clause-transcript g c =
+    let inv = c.loop.invariant.4 in (
+      inv.0,
+      Consumes-kept _ _ _ inv.0 inv.1 c.in-Err.ensures.bytes,
+      stopped g.row.LATEST g.H.Host.may c.args.host.now c.loop.host _ _ inv.0 inv.2 c.loop.session inv.4 inv.5 inv.3,
+    )

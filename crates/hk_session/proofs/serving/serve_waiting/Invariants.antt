@@ -1,6 +1,6 @@
 use Rattle.std.proofs.Common.{List, ℕ, ◌≡◌, ◌+◌, ◌-◌, ◌^◌, min}
 use Rattle.std.specs.Io.KnownBytes.{Appends, Consumes}
-use Rattle.hk_session.specs.Sessions.{Stands, IsResting}
+use Rattle.hk_session_parts.specs.Sessions.{Stands, IsResting}
 use Rattle.hk_session.proofs.serving.serve_waiting.Given as goal
 
 abbrev pub invariant-loop : goal.invariant-loop

@@ -1,6 +1,6 @@
 use Rattle.std.proofs.Common.{refl, inr, subst, sym, List}
 use Rattle.hk_log.specs.declared.item.Item.{Item}
-use Rattle.hk_session.specs.Steps.{gathered, with_items, MakesChange}
+use Rattle.hk_state_host.specs.Steps.{gathered, with_items, MakesChange}
 use Rattle.hk_messages.specs.declared.request.Request.TheVariants.{Items}
 use Rattle.hk_c.specs.Calls.{Taken}
 use Rattle.hk_c.specs.Values.{ReplicaValue}

@@ -1,0 +1,10 @@
+pub mod SaidReplies
+pub mod Transcripts
+pub mod WrittenPieces
+pub mod NeverCut
+pub mod NoTruncatedValue
+pub mod NoTruncatedRequest
+pub mod KeptReplies
+pub mod SessionTurns
+pub mod SessionStands
+pub mod SpokenTurns
