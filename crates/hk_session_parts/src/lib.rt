@@ -5,7 +5,9 @@
 mod counted;
 mod ended;
 mod host;
+pub mod sending;
 mod step;
+pub mod taking;
 mod waiter;
 
 pub use counted::Counted;

@@ -1,11 +1,11 @@
 //! A session by its steps: what is done between two reads.
 
 ghost use Rattle.std.specs.Prelude.{◌≡◌, ◌≢◌, ◌⊎◌, ◌≤◌, ◌++◌, ℕ, List, [], ◌∷◌, false, length, nat_lt, Ok, Some, None, IfSome, IfNone, OnOk, OnErr};
-ghost use Rattle.hk_session_parts.specs.Said.{refused_text};
 ghost use Rattle.hk_session_parts.specs.Transcript.{fault_of};
-ghost use Rattle.hk_session_parts.specs.Sessions.{AppendsKept, Closes, ClosesBy, Continues, HasNoNext, IsStanding, IsWithoutMemory, Pauses, ReadIn, Takes, TakesIn, Turns, awaited, first_awaited};
+ghost use Rattle.hk_session_parts.specs.Sessions.{AppendsKept, Closes, ClosesBy, Continues, HasNoNext, IsStanding, IsWithoutMemory, Pauses, ReadIn, Takes, Turns, awaited, first_awaited};
 
-use crate::sending::{put_piece, put_whole};
+use hk_session_parts::sending::{put_piece, refuse};
+use hk_session_parts::taking::take_in;
 use hk_session_parts::{Ended, Host, Step};
 use hk_types::{FormFault, Refusal, Time};
 use hk_wire::{LaterRequest, Place, Reply, Request, RequestFeeder};
@@ -60,34 +60,6 @@ impl<const LATEST: u8> Model for Session<LATEST> {
     ghost view = { λ s. record { requests = s.waiting.items; left = s.feeder; kept = s.kept; begun = s.place.bytes } };
 
     ghost invariant = { λ s. (s.fault ≡ fault_met s.feeder) × IsKeptAt s.kept s.place };
-}
-
-/// Reads the next piece of the stream behind the requests that are there, and returns the fault that follows them, if one
-/// does. Where memory runs out the feeder and the list are as before.
-fn take_in<const LATEST: u8>(
-    feeder: &mut RequestFeeder<LATEST>,
-    piece: &[u8],
-    requests: &mut Vec<Request>,
-) -> Result<Option<FormFault>, AllocError>
-    ensures reads { TakesIn LATEST feeder.old feeder.new piece.now requests.old.items requests.new.items result }
-    ensures err { OnErr result ((feeder.new ≡ feeder.old) × (requests.new.items ≡ requests.old.items)) }
-{
-    match feeder.feed(piece, requests) {
-        Ok(()) => Ok(None),
-        Err(why) => match why {
-            Refusal::Form(fault) => Ok(Some(fault)),
-            _ => Err(AllocError),
-        },
-    }
-}
-
-/// Appends that a session ends with this fault.
-fn refuse(fault: FormFault, out: &mut Vec<u8>) -> Result<(), AllocError>
-    ensures ok { OnOk result (out.new.items ≡ out.old.items ++ refused_text fault) }
-    ensures err { OnErr result (out.new.items ≡ out.old.items) }
-{
-    let reply = Reply::Refused(Refusal::Form(fault));
-    put_whole(&reply, out)
 }
 
 /// What a stream ends with whose feeder ends so. A fault is appended.

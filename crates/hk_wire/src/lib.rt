@@ -8,10 +8,9 @@
 #![tactic(auto)]
 
 mod laws;
-mod reply_encoding;
 mod reply_pieces;
-mod request_encoding;
 
+pub use hk_encodings::{encode_reply, encode_request, kind_of};
 pub use hk_messages::{
     LaterReply, LaterRequest, MOST_MILLISECONDS, Reply, ReplyFeeder, ReplyFormat, Request,
     RequestFeeder, RequestFormat,
@@ -20,6 +19,4 @@ pub use laws::{
     one_reply_encoding, one_reply_reading, one_request_encoding, one_request_reading,
     reply_pieces_join, request_pieces_join,
 };
-pub use reply_encoding::encode_reply;
 pub use reply_pieces::{Place, encode_piece};
-pub use request_encoding::{encode_request, kind_of};

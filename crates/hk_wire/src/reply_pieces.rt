@@ -6,7 +6,7 @@ ghost use Rattle.hk_messages.specs.LaterReplies as later;
 ghost use Rattle.hk_messages.specs.Replies as replies;
 ghost use Rattle.hk_wire.specs.Pieces as spec;
 
-use crate::reply_encoding::reply_len;
+use hk_encodings::reply_encoding::reply_len;
 use hk_frames::{put_u32, put_u64};
 use hk_log::Version;
 use hk_message_head::head::put_plain_head;

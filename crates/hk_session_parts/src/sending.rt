@@ -3,7 +3,7 @@
 ghost use Rattle.std.specs.Prelude.{◌≡◌, ◌++◌, OnOk, OnErr, IfOk};
 ghost use Rattle.hk_wire.specs.Pieces.{IsPlace};
 ghost use Rattle.hk_messages.specs.Replies.{reply_seen, reply_text};
-ghost use Rattle.hk_session_parts.specs.Said.{PutsPiece, too_long};
+ghost use Rattle.hk_session_parts.specs.Said.{PutsPiece, refused_text, too_long};
 
 use hk_types::{FormFault, Refusal};
 use hk_wire::{LaterReply, Place, Reply, encode_piece, encode_reply};
@@ -21,7 +21,7 @@ fn too_long(reply: &Reply) -> Reply
 }
 
 /// Adds the encoding of a reply at the end, or nothing where it has none or there is no memory.
-pub(crate) fn put_whole(reply: &Reply, out: &mut Vec<u8>) -> Result<(), AllocError>
+pub fn put_whole(reply: &Reply, out: &mut Vec<u8>) -> Result<(), AllocError>
     ensures ok { OnOk result (out.new.items ≡ out.old.items ++ reply_text (reply_seen reply.now)) }
     ensures err { OnErr result (out.new.items ≡ out.old.items) }
 {
@@ -42,11 +42,7 @@ fn put_too_long(reply: &Reply, out: &mut Vec<u8>) -> Result<(), AllocError>
 
 /// Adds the next piece of what is written for a reply at the end: of its encoding, or that it has none. Returns where the piece
 /// after it begins, or `None` where that was all.
-pub(crate) fn put_piece(
-    reply: &Reply,
-    from: Place,
-    out: &mut Vec<u8>,
-) -> Result<Option<Place>, AllocError>
+pub fn put_piece(reply: &Reply, from: Place, out: &mut Vec<u8>) -> Result<Option<Place>, AllocError>
     requires { IsPlace (reply_seen reply.now) from }
     ensures ok { IfOk result (λ next. PutsPiece reply.now from.bytes next out.old.items out.new.items) }
     ensures err { OnErr result (out.new.items ≡ out.old.items) }
@@ -61,4 +57,13 @@ pub(crate) fn put_piece(
             }
         },
     }
+}
+
+/// Appends that a session ends with this fault.
+pub fn refuse(fault: FormFault, out: &mut Vec<u8>) -> Result<(), AllocError>
+    ensures ok { OnOk result (out.new.items ≡ out.old.items ++ refused_text fault) }
+    ensures err { OnErr result (out.new.items ≡ out.old.items) }
+{
+    let reply = Reply::Refused(Refusal::Form(fault));
+    put_whole(&reply, out)
 }

@@ -11,7 +11,7 @@ use std::alloc::AllocError;
 
 /// How many bytes the rest of a reply's frame has, or `None` where it has no encoding.
 #[tactic(auto, using(hk_messages::proofs::Lengths::reply_rest_len))]
-pub(crate) fn reply_len(reply: &Reply) -> Option<u32>
+pub fn reply_len(reply: &Reply) -> Option<u32>
     ensures reply { IfSome result (λ _. replies.IsReply (replies.reply_seen reply.now)) }
     ensures len { replies.IsLength reply.now result }
 {

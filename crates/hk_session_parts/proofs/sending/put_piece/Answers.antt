@@ -2,7 +2,7 @@ use Rattle.std.proofs.Common.{ℕ, List, ◌++◌, refl, ap, ◌∙◌}
 use Rattle.hk_messages.specs.Replies.{reply_seen, reply_text}
 use Rattle.hk_session_parts.specs.Said.{too_long}
 use Rattle.hk_session_parts.proofs.SaidReplies.{refused_put, no_encoding}
-use Rattle.hk_turns.proofs.sending.put_piece.Goals as goal
+use Rattle.hk_session_parts.proofs.sending.put_piece.Goals as goal
 
 pub returns-in_ok-put_too_long-in_default : goal.returns-in_ok-put_too_long-in_default
 returns-in_ok-put_too_long-in_default c =

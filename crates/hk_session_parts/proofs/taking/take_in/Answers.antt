@@ -1,7 +1,7 @@
 use Rattle.std.proofs.Common.{Err, refl}
 use Rattle.hk_messages.specs.Requests.{AddsRequests}
 use Rattle.hk_session_parts.proofs.Transcripts.{took, took_fault, feeder_kept}
-use Rattle.hk_turns.proofs.session.take_in.Goals as goal
+use Rattle.hk_session_parts.proofs.taking.take_in.Goals as goal
 
 pub returns-in-Ok-clause-reads : goal.returns-in-Ok-clause-reads
 returns-in-Ok-clause-reads g c left is =
