@@ -69,11 +69,11 @@ pub fn mark(number_of_stream: u16, count: u64, upto: u64) -> Result<Item, Refusa
     Ok(Item::Closed(mark))
 }
 
-/// The bytes of hexadecimal digits; spaces are skipped. Digits that are none are refused as memory is.
+/// The bytes of hexadecimal digits; spaces and ends of lines are skipped. Digits that are none are refused as memory is.
 pub fn bytes_of(alloc: Global, text: &str) -> Result<Vec<u8>, AllocError> {
     let mut digits = String::new(alloc);
     for digit in text.chars() {
-        if digit != ' ' {
+        if digit != ' ' && digit != '\n' {
             digits.push(digit)?;
         }
     }

@@ -6,11 +6,11 @@ mod uniting;
 
 ghost use Rattle.std.specs.Prelude.{◌≤◌, ⊤};
 
+use super::items;
 use hk_batch::{Gate, OpenGate, build};
 use hk_delta::Fragment;
 use hk_log::{Item, Version};
-use hk_tests_values::{entry, mark};
-use hk_types::{Config, Refusal, VersionKey};
+use hk_types::{Config, VersionKey};
 use std::alloc::Global;
 use std::sync::atomic::AtomicU64;
 use std::sync::atomic::Ordering::SeqCst;
@@ -21,61 +21,50 @@ use std::thread::Threads;
 /// How often worker 1 looks whether worker 2 has entered.
 const TURNS: u32 = 10_000_000;
 
-/// Item 1 to 4 is an entry, 5 and 6 are the marks of both streams; 7 is like 1 with another body, 8 is of another log.
-fn item(alloc: Global, name: u8) -> Result<Item, Fail> {
-    let item = match name {
-        1 => entry(alloc, 7, (1, 1, 1), (None, Some((5, &[0x41])))),
-        2 => entry(alloc, 7, (2, 1, 2), (None, Some((6, &[0x42])))),
-        3 => entry(alloc, 7, (1, 2, 3), (Some((5, 1)), Some((5, &[0x43])))),
-        4 => entry(alloc, 7, (2, 2, 4), (Some((6, 2)), None)),
-        5 => mark(1, 2, 4),
-        6 => mark(2, 2, 4),
-        7 => entry(alloc, 7, (1, 1, 1), (None, Some((5, &[0x99])))),
-        _ => entry(alloc, 8, (1, 1, 1), (None, Some((5, &[0x41])))),
-    };
-    Ok(item?)
-}
-
-fn items(alloc: Global, names: &[u8]) -> Result<Vec<Item>, Fail> {
-    let mut items = Vec::new(alloc);
-    for name in names {
-        items.push(item(alloc, *name)?)?;
-    }
-    Ok(items)
-}
-
 /// What a fragment knows of a version: its key and birth, the byte of its row and its end, 0 where there is none.
-fn line((version, known): &(VersionKey, Version)) -> (u64, u64, u8, u64) {
-    let byte = known
-        .row()
-        .and_then(|row| row.body().first().copied())
-        .unwrap_or(0);
-    let died = known.died().map_or(0, |died| died.number());
+type Line = (u64, u64, u8, u64);
+
+fn line((version, known): &(VersionKey, Version)) -> Line {
+    let byte = match known.row() {
+        Some(row) => match row.body() {
+            [byte] => *byte,
+            _ => 0,
+        },
+        None => 0,
+    };
+    let died = match known.died() {
+        Some(died) => died.number(),
+        None => 0,
+    };
     (version.key.number(), version.born.number(), byte, died)
 }
 
+/// Whether a fragment knows these versions and no others.
+fn knows(fragment: &Fragment, known: &[Line]) -> bool {
+    let facts = fragment.facts();
+    let mut is_known = facts.len() == known.len();
+    for (fact, wanted) in facts.iter().zip(known) {
+        is_known = is_known && line(fact) == *wanted;
+    }
+    is_known
+}
+
 /// The versions of the items 1 to 6.
-const KNOWN: [(u64, u64, u8, u64); 3] = [(5, 1, 0x41, 3), (5, 3, 0x43, 0), (6, 2, 0x42, 4)];
+const KNOWN: [Line; 3] = [(5, 1, 0x41, 3), (5, 3, 0x43, 0), (6, 2, 0x42, 4)];
 
 /// Whether a fragment is that of the items 1 to 6.
 fn is_whole(fragment: &Fragment) -> bool {
-    let facts = fragment.facts();
-    let known = facts.len() == KNOWN.len()
-        && facts
-            .iter()
-            .zip(&KNOWN)
-            .all(|(fact, known)| line(fact) == *known);
     let times = (
         fragment.base().number(),
         fragment.horizon().number(),
         fragment.got().readable().number(),
     );
-    known && times == (0, 0, 4)
+    times == (0, 0, 4) && knows(fragment, &KNOWN)
 }
 
 /// 0 where so many workers return the fragment of the items 1 to 6, or the number of the refusal; 1 for another fragment.
-fn told<R: Threads + Sync>(
-    rt: &R,
+fn told(
+    rt: &(impl Threads + Sync),
     alloc: Global,
     config: Config,
     items: &[Item],
@@ -91,17 +80,27 @@ fn told<R: Threads + Sync>(
 }
 
 /// Lists of items by their names, and the refusals of each: the items 1 to 6, one of another log, and a conflict.
-const LISTS: [(&[u8], u8); 3] = [(&[6, 5, 4, 3, 2, 1, 1], 0), (&[1, 7, 8], 20), (&[1, 7], 23)];
+static LISTS: [(&[u8], u8); 3] = [(&[6, 5, 4, 3, 2, 1, 1], 0), (&[1, 7, 8], 20), (&[1, 7], 23)];
+
+/// Whether every number of workers returns this.
+fn all_tell(
+    rt: &(impl Threads + Sync),
+    alloc: Global,
+    names: &[u8],
+    wanted: u8,
+) -> Result<bool, Fail> {
+    let (config, items) = (Config::new(7, 2)?, items(alloc, names)?);
+    let mut is_told = true;
+    for workers in 1..=16 {
+        is_told = is_told && told(rt, alloc, config, &items, workers) == wanted;
+    }
+    Ok(is_told)
+}
 
 #[test]
 fn every_number_of_workers_gives_the_fragment(rt: HostRuntime) -> Result<(), Fail> {
-    let config = Config::new(7, 2)?;
-    for (names, wanted) in LISTS {
-        let items = items(rt.alloc(), names)?;
-        for workers in 1..=16 {
-            let tells = told(&rt, rt.alloc(), config, &items, workers);
-            assert!(rt; tells == wanted, "{wanted} by {workers} workers");
-        }
+    for (names, wanted) in &LISTS {
+        assert!(rt; all_tell(&rt, rt.alloc(), names, *wanted)?);
     }
     Ok(())
 }
@@ -120,23 +119,40 @@ fn refuse(alloc: Global, number: usize) {
 /// More than three workers and a last attempt make over seven items.
 const MOST_REQUESTS: usize = 150;
 
+/// Whether three workers return this, or are refused 90 where a request was refused and a fragment is wanted.
+fn withstands(
+    rt: &(impl Threads + Sync),
+    alloc: Global,
+    config: Config,
+    (items, wanted): (&[Item], u8),
+    first: usize,
+) -> bool {
+    refuse(alloc, first);
+    let tells = told(rt, alloc, config, items, 3);
+    refuse(alloc, 0);
+    tells == wanted || first > 0 && wanted == 0 && tells == 90
+}
+
+/// The same where each request is refused in turn, alone and with those after it, and then none.
+fn withstands_all(
+    rt: &(impl Threads + Sync),
+    alloc: Global,
+    names: &[u8],
+    wanted: u8,
+) -> Result<bool, Fail> {
+    let (config, items) = (Config::new(7, 2)?, items(alloc, names)?);
+    let mut withstood = true;
+    for turn in 3..=3 * MOST_REQUESTS + 2 {
+        let number = [turn / 3, turn / 3 + ALL, 0][turn % 3];
+        withstood = withstood && withstands(rt, alloc, config, (&items, wanted), number);
+    }
+    Ok(withstood)
+}
+
 #[test]
 fn each_request_refused(rt: HostRuntime) -> Result<(), Fail> {
-    let config = Config::new(7, 2)?;
-    for (names, wanted) in LISTS {
-        let items = items(rt.alloc(), names)?;
-        for number in 1..=MOST_REQUESTS {
-            for first in [number, number + ALL, 0] {
-                refuse(rt.alloc(), first);
-                let tells = told(&rt, rt.alloc(), config, &items, 3);
-                refuse(rt.alloc(), 0);
-                let may_fail = first > 0 && wanted == 0;
-                assert!(rt;
-                    tells == wanted || may_fail && tells == 90,
-                    "{first}: {tells}"
-                );
-            }
-        }
+    for (names, wanted) in &LISTS {
+        assert!(rt; withstands_all(&rt, rt.alloc(), names, *wanted)?);
     }
     Ok(())
 }
@@ -169,16 +185,19 @@ impl Gate for Meeting {
     }
 }
 
+/// Whether two workers build the fragment of the items 1 to 6 through a gate.
+fn is_built(rt: &(impl Threads + Sync), alloc: Global, gate: &Meeting) -> Result<bool, Fail> {
+    let (config, items) = (Config::new(7, 2)?, items(alloc, LISTS[0].0)?);
+    Ok(is_whole(&build(rt, alloc, config, &items, 2, gate)?))
+}
+
 #[test]
 fn two_workers_run_side_by_side(rt: HostRuntime) -> Result<(), Fail> {
-    let alloc = rt.alloc();
     let gate = Meeting {
         entered: AtomicU64::new(0),
         given_up: AtomicU64::new(0),
     };
-    let whole = items(alloc, &[6, 5, 4, 3, 2, 1, 1])?;
-    let built = build(&rt, alloc, Config::new(7, 2)?, &whole, 2, &gate)?;
-    assert!(rt; is_whole(&built));
+    assert!(rt; is_built(&rt, rt.alloc(), &gate)?);
     assert!(rt; gate.entered.load(SeqCst) == 1);
     assert!(rt; gate.given_up.load(SeqCst) == 0, "worker 2 never came");
     Ok(())

@@ -9,13 +9,12 @@ use hk_primary::Txn;
 use hk_tests_values::row;
 use hk_types::{Key, Refusal, Table, Time};
 use std::alloc::Global;
-use std::test::Fail;
 
 /// A transaction that reads at the start, and puts a row of one byte at a key of table 1.
-fn transaction(alloc: Global, key: u64, byte: u8) -> Result<Txn, Fail> {
+fn transaction(alloc: Global, key: u64, byte: u8) -> Result<Txn, Refusal> {
     let mut txn = Txn::at(alloc, Time::zero());
     match txn.put(Table::new(1), Key::new(key), row(alloc, &[byte])?) {
         Ok(()) => Ok(txn),
-        Err((_row, why)) => Err(Fail::from(why)),
+        Err((_row, why)) => Err(why),
     }
 }

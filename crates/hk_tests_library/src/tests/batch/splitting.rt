@@ -13,7 +13,7 @@ use std::test::Fail;
 const MOST_REQUESTS: usize = 40;
 
 /// How many bytes a chunk has at most, and then of each chunk how many facts it has, and how many come after it.
-const CUTS: [(u64, &[(usize, usize)]); 6] = [
+static CUTS: [(u64, &[(usize, usize)]); 6] = [
     (0, &[(1, 2), (1, 1), (1, 0), (0, 0)]),
     (34, &[(1, 2), (1, 1), (1, 0), (0, 0)]),
     (59, &[(1, 2), (1, 1), (1, 0), (0, 0)]),
@@ -28,20 +28,20 @@ fn whole(alloc: Global) -> Result<Fragment, Fail> {
 }
 
 /// Whether the fragment is cut into these chunks.
-fn is_cut(split: &mut Split, most_bytes: u64, parts: &[(usize, usize)]) -> bool {
+fn is_cut(alloc: Global, most_bytes: u64, parts: &[(usize, usize)]) -> Result<bool, Fail> {
+    let mut split = Split::new(whole(alloc)?);
     let mut is_cut = true;
-    for (len, left) in parts {
+    for wanted in parts {
         split.advance(most_bytes);
-        is_cut = is_cut && split.part().len() == *len && split.left() == *left;
+        is_cut = is_cut && (split.part().len(), split.left()) == *wanted;
     }
-    is_cut
+    Ok(is_cut)
 }
 
 #[test]
 fn parts_are_as_long_as_they_may_be(rt: HostRuntime) -> Result<(), Fail> {
-    for (most_bytes, parts) in CUTS {
-        let mut split = Split::new(whole(rt.alloc())?);
-        assert!(rt; is_cut(&mut split, most_bytes, parts), "{most_bytes}");
+    for (most_bytes, parts) in &CUTS {
+        assert!(rt; is_cut(rt.alloc(), *most_bytes, parts)?, "{most_bytes}");
     }
     Ok(())
 }
@@ -133,15 +133,19 @@ fn comes_through(alloc: Global, most_bytes: u64, number: usize) -> Result<bool, 
     }
 }
 
+/// The same of each request.
+fn comes_through_all(alloc: Global, most_bytes: u64) -> Result<bool, Fail> {
+    let mut came = true;
+    for number in 0..=MOST_REQUESTS {
+        came = came && comes_through(alloc, most_bytes, number)?;
+    }
+    Ok(came)
+}
+
 #[test]
 fn each_request_of_parts_refused(rt: HostRuntime) -> Result<(), Fail> {
-    for (most_bytes, _parts) in CUTS {
-        for number in 0..=MOST_REQUESTS {
-            assert!(rt;
-                comes_through(rt.alloc(), most_bytes, number)?,
-                "request {number}"
-            );
-        }
+    for (most_bytes, _parts) in &CUTS {
+        assert!(rt; comes_through_all(rt.alloc(), *most_bytes)?);
     }
     Ok(())
 }

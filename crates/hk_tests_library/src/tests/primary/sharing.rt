@@ -4,7 +4,7 @@ ghost use Rattle.std.specs.Prelude.{◌≡◌, ◌<◌};
 
 use super::transaction;
 use hk_log::Item;
-use hk_primary::{Answer, Naming, Query, SharedPrimary, Txn};
+use hk_primary::{Answer, Naming, Query, SharedPrimary};
 use hk_tests_values::{stream, time};
 use hk_types::{Config, Refusal, StreamNo, Table, Time};
 use std::alloc::Global;
@@ -15,52 +15,72 @@ use std::test::Fail;
 use std::thread;
 use std::thread::Threads;
 
-/// The time of a commit on a stream, 0 where there is none, and the share.
+/// The time of a commit that puts a key on a stream, 0 where there is none.
+fn commit<K: Naming, R: Wait>(
+    rt: &R,
+    alloc: Global,
+    primary: &SharedPrimary<K>,
+    share: &mut Share<K>,
+    put: (u64, u16),
+) -> Result<u64, Refusal>
+    requires { 0 < share.old.parts }
+    ensures { share.new.parts ≡ share.old.parts }
+{
+    let stream = stream(put.1)?;
+    let txn = transaction(alloc, put.0, 0x41)?;
+    match primary.commit(rt, share, txn, stream) {
+        Ok(Some(at)) => Ok(at.number()),
+        _ => Ok(0),
+    }
+}
+
+/// The same, and the share.
 fn committed<K: Naming, R: Wait>(
     rt: &R,
+    alloc: Global,
     primary: &SharedPrimary<K>,
     share: Share<K>,
-    txn: Txn,
-    stream: StreamNo,
+    put: (u64, u16),
 ) -> (u64, Share<K>)
     requires { 0 < share.parts }
     ensures { result.1.parts ≡ share.parts }
 {
     let mut mine = share;
-    let at = match primary.commit(rt, &mut mine, txn, stream) {
-        Ok(Some(at)) => at.number(),
-        _ => 0,
+    let at = match commit(rt, alloc, primary, &mut mine, put) {
+        Ok(at) => at,
+        Err(_why) => 0,
     };
     (at, mine)
 }
 
-/// Whether an item is an entry that puts a key.
+/// Whether an item is an entry that puts one key, this one.
 fn puts(item: &Item, wanted: u64) -> bool {
     match item {
-        Item::Commit(entry) => entry
-            .rows()
-            .iter()
-            .any(|(_table, key, _row)| key.number() == wanted),
+        Item::Commit(entry) => match entry.rows() {
+            [(_table, key, _row)] => key.number() == wanted,
+            _ => false,
+        },
         Item::Closed(_) => false,
     }
 }
 
 /// How many items put a key.
-fn times_put(items: &[Item], wanted: u64) -> usize {
-    items.iter().filter(|item| puts(item, wanted)).count()
+fn times_put(items: &[Item], wanted: u64) -> u64 {
+    let mut count: u64 = 0;
+    for item in items {
+        count = count.saturating_add(u64::from(puts(item, wanted)));
+    }
+    count
 }
 
 /// How often the keys 5 and 6 are put, and the number of items.
-fn seen<K: Naming, R: Wait>(
-    rt: &R,
-    primary: &SharedPrimary<K>,
-) -> Result<(usize, usize, usize), Fail> {
+fn seen<K: Naming, R: Wait>(rt: &R, primary: &SharedPrimary<K>) -> Result<(u64, u64, usize), Fail> {
     let items = primary.items(rt, 1)?;
     Ok((times_put(&items, 5), times_put(&items, 6), items.len()))
 }
 
 /// The times of two commits, what is seen of them, and the number of items.
-type Both = ((u64, u64), (usize, usize, usize), u64);
+type Both = ((u64, u64), (u64, u64, usize), u64);
 
 fn both_commit<K: Naming + Send + Sync, R: Threads + Wait + Sync>(
     rt: &R,
@@ -74,21 +94,17 @@ fn both_commit<K: Naming + Send + Sync, R: Threads + Wait + Sync>(
     requires config { config ≡ K.config }
     requires after { K.after ≡ 0 }
 {
-    let (left, right) = (stream(1)?, stream(2)?);
-    let one = transaction(alloc, 5, 0x41)?;
-    let other = transaction(alloc, 6, 0x42)?;
     let (primary, all) = SharedPrimary::<K>::new(alloc, config, blank)?;
-    let (times, count) = by_two(rt, &primary, all, (one, left), (other, right));
+    let (times, count) = by_two(rt, alloc, &primary, all);
     Ok((times, seen(rt, &primary)?, count))
 }
 
 /// The times of two commits by two threads, the lower one first, and the number of items.
 fn by_two<K: Naming + Send + Sync, R: Threads + Wait + Sync>(
     rt: &R,
+    alloc: Global,
     primary: &SharedPrimary<K>,
     all: Share<K>,
-    one: (Txn, StreamNo),
-    other: (Txn, StreamNo),
 ) -> ((u64, u64), u64)
     requires { all.parts ≡ 2 }
 {
@@ -98,10 +114,10 @@ fn by_two<K: Naming + Send + Sync, R: Threads + Wait + Sync>(
         rt,
         ||
             requires { 0 < mine.parts }
-        { committed(rt, primary, mine, one.0, one.1) },
+        { committed(rt, alloc, primary, mine, (5, 1)) },
         ||
             requires { 0 < part.parts }
-        { committed(rt, primary, part, other.0, other.1) },
+        { committed(rt, alloc, primary, part, (6, 2)) },
     );
     whole.merge(back);
     let count = primary.item_count(rt, &mut whole);
@@ -163,9 +179,8 @@ fn told<K: Naming, R: Wait>(
     requires after { after ≡ K.after }
 {
     let (two, put, early) = (stream(2)?, time(5)?, time(6)?);
-    let txn = transaction(alloc, 5, 0x41)?;
     let (primary, all) = SharedPrimary::<K>::starting_after(alloc, config, after, blank)?;
-    let (_at, all) = committed(rt, &primary, all, txn, two);
+    let (_at, all) = committed(rt, alloc, &primary, all, (5, 2));
     let (mark, again) = retired(rt, &primary, all, two)?;
     let early = counted(rt, &primary, early);
     Ok((counted(rt, &primary, put), early, mark, again))

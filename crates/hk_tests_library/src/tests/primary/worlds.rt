@@ -4,23 +4,29 @@ use hk_laws::run;
 use hk_model::{Event, Told, Took};
 use hk_tests_values::stream;
 use hk_types::Config;
+use std::alloc::Global;
 use std::test::Fail;
 
-#[test]
-fn a_run_of_two_events(rt: HostRuntime) -> Result<(), Fail> {
-    let alloc = rt.alloc();
-    let stream = stream(1)?;
+/// What a world of log 7 with one stream and one replica tells of a mark, and of its absorption.
+fn told(alloc: Global) -> Result<Vec<Told>, Fail> {
+    let (config, stream) = (Config::new(7, 1)?, stream(1)?);
     let mut events = Vec::new(alloc);
     events.push(Event::MarkOf { stream })?;
     events.push(Event::Absorb {
         replica: 1,
         item: 1,
     })?;
-    let told = run(alloc, Config::new(7, 1)?, 1, events)?;
-    let marked = matches!(
-        told.as_slice(),
-        [Told::Marked(_), Told::Took(Took::Repeated)]
+    Ok(run(alloc, config, 1, events)?)
+}
+
+#[test]
+fn a_run_of_two_events(rt: HostRuntime) -> Result<(), Fail> {
+    let told = told(rt.alloc())?;
+    assert!(rt;
+        matches!(
+            told.as_slice(),
+            [Told::Marked(_), Told::Took(Took::Repeated)]
+        )
     );
-    assert!(rt; marked);
     Ok(())
 }

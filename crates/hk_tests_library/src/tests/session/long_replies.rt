@@ -1,11 +1,10 @@
 //! A session whose reply is long: it comes in pieces.
 
+use super::new_host;
 use hk_delta::whole_of;
 use hk_log::Item;
 use hk_session::{Session, StateHost, Step};
-use hk_state::ReplicaState;
 use hk_tests_values::{bytes_of, entry};
-use hk_types::Config;
 use hk_wire::{Reply, encode_reply};
 use std::alloc::Global;
 use std::test::*;
@@ -24,94 +23,94 @@ fn entries(alloc: Global) -> Result<Vec<Item>, Fail> {
 
 /// A host that holds them.
 fn host(alloc: Global) -> Result<StateHost, Fail> {
-    let state = ReplicaState::new(alloc, Config::new(7, 1)?)?;
-    let mut host = StateHost::new(alloc, state);
+    let mut host = new_host(alloc)?;
     let _done = host.take_items(&entries(alloc)?);
     Ok(host)
 }
 
-/// What it says to a request of its full snapshot, and to one of its front.
-fn wanted(alloc: Global, host: &StateHost) -> Result<Vec<u8>, Fail> {
+/// The text of a reply, and behind it the front that it says.
+fn text_of(alloc: Global, reply: &Reply) -> Result<Vec<u8>, Fail> {
+    let front = bytes_of(alloc, "00000012 01 21 0000000000000000 0000000000000000")?;
     let mut text = Vec::new(alloc);
-    encode_reply(&Reply::Fragment(whole_of(alloc, host.state())?), &mut text)?;
-    text.extend_from_slice(&bytes_of(alloc, "00000012 01 21 0000000000000000 0000000000000000")?)?;
+    encode_reply(reply, &mut text)?;
+    text.extend_from_slice(&front)?;
     Ok(text)
 }
 
-/// Which step a session takes, how many bytes it writes, and how many of its reply are left.
+/// What it says to a request of its full snapshot, and to one of its front.
+fn wanted(alloc: Global, host: &StateHost) -> Result<Vec<u8>, Fail> {
+    let whole = Reply::Fragment(whole_of(alloc, host.state())?);
+    text_of(alloc, &whole)
+}
+
+/// A session with its host, and what was written.
+#[derive(Drop)]
+struct Play {
+    alloc: Global,
+    session: Session<2>,
+    host: StateHost,
+    written: Vec<u8>,
+}
+
+/// Which step a session takes, how many bytes were written by then, and how many of its reply are left.
 type Taken = (Step, usize, u64);
 
-/// A step of a session. What it writes goes behind what was written.
-fn taken(
-    alloc: Global,
-    session: &mut Session<2>,
-    asked: &[u8],
-    host: &mut StateHost,
-    written: &mut Vec<u8>,
-) -> Result<Taken, Fail> {
-    let mut out = Vec::new(alloc);
-    let step = session.take(asked, false, &mut out, host);
-    written.extend_from_slice(&out)?;
-    Ok((step, out.len(), session.standing()))
-}
-
-/// Whether a step wrote a block of a long reply, of which so much is left.
-fn is_block((step, len, standing): Taken, left: usize) -> bool {
-    step == Step::Full && len > 65_536 && len < 65_700 && standing == left as u64
-}
-
-/// Whether a session answers with two blocks of a reply of so many bytes.
-fn begins(
-    alloc: Global,
-    session: &mut Session<2>,
-    host: &mut StateHost,
-    long: usize,
-    written: &mut Vec<u8>,
-) -> Result<bool, Fail> {
-    let mut asked = bytes_of(alloc, "00000002 01 13 00000002 01 11")?;
-    let mut is_so = true;
-    for _ in 0..2 {
-        let block = taken(alloc, session, &asked, host, written)?;
-        is_so = is_so && is_block(block, long.saturating_sub(written.len()));
-        asked.clear();
+impl Play {
+    /// A step of the session. What it writes goes behind what was written.
+    fn take(&mut self, asked: &[u8]) -> Result<Taken, Fail> {
+        let mut out = Vec::new(self.alloc);
+        let step = self.session.take(asked, false, &mut out, &mut self.host);
+        self.written.extend_from_slice(&out)?;
+        Ok((step, self.written.len(), self.session.standing()))
     }
-    Ok(is_so)
+
+    /// Four steps, of which the first takes a request of the full snapshot and one of the front.
+    fn take_all(&mut self) -> Result<(Taken, Taken, Taken, Taken), Fail> {
+        let asked = bytes_of(self.alloc, "00000002 01 13 00000002 01 11")?;
+        let first = self.take(&asked)?;
+        Ok((first, self.take(&[])?, self.take(&[])?, self.take(&[])?))
+    }
+
+    /// Whether these write a text, in pieces.
+    fn writes(&mut self, text: &[u8]) -> Result<bool, Fail> {
+        let steps = self.take_all()?;
+        Ok(are_pieces(steps, text.len().saturating_sub(22)) && self.written.as_slice() == text)
+    }
 }
 
-/// Whether it answers with the last of it, and then what was asked behind.
-fn ends(
-    alloc: Global,
-    session: &mut Session<2>,
-    host: &mut StateHost,
-    long: usize,
-    written: &mut Vec<u8>,
-) -> Result<bool, Fail> {
-    let (last, _len, standing) = taken(alloc, session, &[], host, written)?;
-    let is_all = last == Step::Full && standing == 0 && written.len() == long;
-    let (behind, _len, _standing) = taken(alloc, session, &[], host, written)?;
-    Ok(is_all && behind == Step::GoesOn)
+fn new_play(alloc: Global) -> Result<Play, Fail> {
+    let host = host(alloc)?;
+    Ok(Play {
+        alloc,
+        session: Session::new(alloc),
+        host,
+        written: Vec::new(alloc),
+    })
 }
 
-fn comes_in_pieces(
-    alloc: Global,
-    host: &mut StateHost,
-    long: usize,
-    written: &mut Vec<u8>,
-) -> Result<bool, Fail> {
-    let mut session = Session::new(alloc);
-    Ok(
-        begins(alloc, &mut session, host, long, written)?
-            && ends(alloc, &mut session, host, long, written)?,
-    )
+/// Whether a step wrote a block of a reply of so many bytes, behind what was written before.
+fn is_block(before: usize, taken: Taken, long: usize) -> bool {
+    let (step, written, standing) = taken;
+    let len = written.saturating_sub(before);
+    let left = long.saturating_sub(written) as u64;
+    step == Step::Full && len > 65_536 && len < 65_700 && standing == left
+}
+
+/// Whether the steps are two blocks of a reply of so many bytes, the last of it, and what was asked behind.
+fn are_pieces(steps: (Taken, Taken, Taken, Taken), long: usize) -> bool {
+    let (one, two, last, behind) = steps;
+    let (_step, before, _standing) = one;
+    let (step, _written, _standing) = behind;
+    is_block(0, one, long)
+        && is_block(before, two, long)
+        && last == (Step::Full, long, 0)
+        && step == Step::GoesOn
 }
 
 #[test]
 fn a_long_reply_comes_in_pieces(rt: HostRuntime) -> Result<(), Fail> {
-    let mut host = host(rt.alloc())?;
-    let text = wanted(rt.alloc(), &host)?;
-    let mut written = Vec::new(rt.alloc());
-    let long = text.len().saturating_sub(22);
-    assert!(rt; comes_in_pieces(rt.alloc(), &mut host, long, &mut written)?);
-    assert!(rt; written == text);
+    let mut play = new_play(rt.alloc())?;
+    let text = wanted(rt.alloc(), &play.host)?;
+    assert!(rt; play.writes(&text)?);
     Ok(())
 }
