@@ -2,11 +2,10 @@
 
 ghost use Rattle.std.specs.Prelude.{◌≡◌};
 
-use hk_delta::{Fragment, fragment_of, join, whole_of};
+use hk_delta::{Fragment, fragment_of};
 use hk_log::Item;
 use hk_model::{Answer, Query};
-use hk_node::{Hold, NewList, Node, NodeName, ReaderSeat, Receipt, start};
-use hk_state::ReplicaState;
+use hk_node::{NewList, Node, NodeName, ReaderSeat, start};
 use hk_tests_values::{entry, mark, time};
 use hk_types::{Config, Key, Refusal, Table, Time};
 use std::alloc::Global;
@@ -17,6 +16,7 @@ use std::test::Fail;
 use std::thread;
 use std::thread::Threads;
 
+mod playing;
 mod rows;
 mod sizes;
 mod threads;
@@ -40,16 +40,22 @@ fn item(alloc: Global, number: u64) -> Result<Item, Fail> {
     Ok(item?)
 }
 
-fn items(alloc: Global, numbers: &[u64]) -> Result<Vec<Item>, Fail> {
+/// The items whose numbers are the digits of this one, at most four.
+fn items(alloc: Global, digits: u64) -> Result<Vec<Item>, Fail> {
     let mut items = Vec::new(alloc);
-    for number in numbers {
-        items.push(item(alloc, *number)?)?;
+    for power in [1_000, 100, 10, 1] {
+        let number = digits / power % 10;
+        if number > 0 {
+            items.push(item(alloc, number)?)?;
+        }
     }
     Ok(items)
 }
 
-fn fragment(alloc: Global, numbers: &[u64]) -> Result<Fragment, Fail> {
-    Ok(fragment_of(alloc, config()?, &items(alloc, numbers)?)?)
+/// Their fragment.
+fn fragment(alloc: Global, digits: u64) -> Result<Fragment, Fail> {
+    let items = items(alloc, digits)?;
+    Ok(fragment_of(alloc, config()?, &items)?)
 }
 
 fn get(key: u64) -> Query {

@@ -1,9 +1,9 @@
 //! What a node says of how much it holds, beside a count of its full snapshot, and answers that have no room.
 
-ghost use Rattle.std.specs.Prelude.{◌≡◌};
-
+use super::playing::{Does, Tells, day};
 use super::*;
 use hk_log::Entry;
+use hk_node::NodeSizes;
 use hk_tests_values::{row, stream, version};
 use hk_types::{Row, VersionKey};
 
@@ -22,11 +22,10 @@ fn counted(whole: &Fragment) -> (u64, u64, u64) {
     sizes
 }
 
-/// Whether the node says of itself what a count of its snapshot says.
-fn agrees<J: NodeName>(seat: &mut ReaderSeat<J>) -> Result<bool, Refusal> {
-    let sizes = seat.sizes()?;
-    let whole = seat.whole()?;
-    Ok((sizes.rows, sizes.ends, sizes.bytes) == counted(&whole))
+/// Whether a node says of itself what a count of its snapshot says, and how many rows it has.
+pub(super) fn agrees(sizes: &NodeSizes, whole: &Fragment) -> (bool, u64) {
+    let told = (sizes.rows, sizes.ends, sizes.bytes);
+    (told == counted(whole), sizes.rows)
 }
 
 /// The ends of the versions that the entry before this one put of the keys up to a bound. The first entry ends none.
@@ -62,209 +61,74 @@ fn wide(alloc: Global, number: u64, count: u64, ended: u64) -> Result<Item, Fail
 }
 
 /// The fragment of one such entry and of the mark of it.
-fn wide_fragment(alloc: Global, number: u64, count: u64, ended: u64) -> Result<Fragment, Fail> {
+pub(super) fn wide_fragment(
+    alloc: Global,
+    number: u64,
+    count: u64,
+    ended: u64,
+) -> Result<Fragment, Fail> {
     let config = config()?;
     let close = mark(1, number, number)?;
     let entry = wide(alloc, number, count, ended)?;
     Ok(fragment_of(alloc, config, &[entry, close])?)
 }
 
-/// A node with its one seat.
-#[derive(Drop)]
-struct Seated<J: NodeName, S: Wait + Drop> {
-    alloc: Global,
-    node: Node<J, S>,
-    seat: ReaderSeat<J>,
-}
-
-fn new_seated<J: NodeName, R: Wait>(
-    rt: &R,
-    alloc: Global,
-    list: NewList,
-) -> Result<Seated<J, &R>, Fail>
-    requires { list ≡ (J.book, J.kind) }
-{
-    let (node, mut seats) = start::<J, &R>(rt, alloc, list, 1)?;
-    let seat = seats.pop().ok_or("seat")?;
-    Ok(Seated { alloc, node, seat })
-}
-
-/// A join of one such entry and of the mark of it.
-fn join_wide<J: NodeName, R: Wait, S: Wait + Drop>(
-    rt: &R,
-    seated: &Seated<J, S>,
-    number: u64,
-    count: u64,
-    ended: u64,
-) -> Result<(), Fail> {
-    let fragment = wide_fragment(seated.alloc, number, count, ended)?;
-    seated.node.join(rt, fragment)?;
-    Ok(())
-}
+/// Six entries, the last of them twice, one that ends little, and prunes that drop many versions and few. An entry has 50
+/// rows, and all of the entry before it are ended but for 48 of the sixth.
+static SIZES: [(Does, Tells); 24] = [
+    (Does::Sizes, (0, 1, 0)),
+    (Does::Wide(1, 50, 50), (0, 2, 0)),
+    (Does::Sizes, (0, 1, 50)),
+    (Does::Wide(2, 50, 50), (0, 3, 0)),
+    (Does::Sizes, (0, 1, 100)),
+    (Does::Wide(3, 50, 50), (0, 4, 0)),
+    (Does::Sizes, (0, 1, 150)),
+    (Does::Wide(4, 50, 50), (0, 5, 0)),
+    (Does::Sizes, (0, 1, 200)),
+    (Does::Wide(5, 50, 50), (0, 6, 0)),
+    (Does::Sizes, (0, 1, 250)),
+    (Does::Wide(6, 50, 50), (0, 7, 0)),
+    (Does::Sizes, (0, 1, 300)),
+    (Does::Wide(6, 50, 50), (0, 8, 0)),
+    (Does::Sizes, (0, 1, 300)),
+    (Does::Wide(7, 50, 2), (0, 9, 0)),
+    (Does::Sizes, (0, 1, 350)),
+    (Does::Prune(3), (0, 10, 3)),
+    (Does::Sizes, (0, 1, 250)),
+    (Does::Prune(6), (0, 11, 6)),
+    (Does::Sizes, (0, 1, 100)),
+    (Does::Prune(7), (0, 12, 7)),
+    (Does::Sizes, (0, 1, 98)),
+    (Does::Publish, (0, 12, 12)),
+];
 
 #[test]
 fn a_node_counts_what_it_holds(rt: HostRuntime) -> Result<(), Fail> {
-    let alloc = rt.alloc();
-    counts::<Brand, _>(&rt, alloc, NewList::new(config()?))
+    day(&rt, rt.alloc(), false, &SIZES)
 }
 
-/// Joins such an entry, after which the node agrees with a count.
-fn grow<J: NodeName, R: Wait + Abort, S: Wait + Drop>(
-    rt: &R,
-    seated: &mut Seated<J, S>,
-    number: u64,
-) -> Result<(), Fail> {
-    join_wide(rt, seated, number, 50, 50)?;
-    assert!(rt; agrees(&mut seated.seat)?);
-    Ok(())
-}
-
-/// Six entries, the last of them twice.
-fn grow_all<J: NodeName, R: Wait + Abort, S: Wait + Drop>(
-    rt: &R,
-    seated: &mut Seated<J, S>,
-) -> Result<(), Fail> {
-    for turn in 1..=7u64 {
-        grow(rt, seated, turn.min(6))?;
-    }
-    assert!(rt; seated.seat.sizes()?.rows == 300);
-    Ok(())
-}
-
-/// Prunes to a time, after which the node agrees with a count.
-fn shrink_to<J: NodeName, R: Wait + Abort, S: Wait + Drop>(
-    rt: &R,
-    seated: &mut Seated<J, S>,
-    to: u64,
-) -> Result<(), Fail> {
-    let to = time(to)?;
-    seated.node.prune(rt, to)?;
-    assert!(rt; agrees(&mut seated.seat)?);
-    Ok(())
-}
-
-/// Prunes that drop few versions and many.
-fn shrink<J: NodeName, R: Wait + Abort, S: Wait + Drop>(
-    rt: &R,
-    seated: &mut Seated<J, S>,
-) -> Result<(), Fail> {
-    shrink_to(rt, seated, 3)?;
-    shrink_to(rt, seated, 6)?;
-    shrink_to(rt, seated, 7)?;
-    assert!(rt; seated.seat.sizes()?.rows == 98);
-    Ok(())
-}
-
-fn grow_and_shrink<J: NodeName, R: Wait + Abort, S: Wait + Drop>(
-    rt: &R,
-    seated: &mut Seated<J, S>,
-) -> Result<(), Fail> {
-    assert!(rt; agrees(&mut seated.seat)?);
-    grow_all(rt, seated)?;
-    join_wide(rt, seated, 7, 50, 2)?;
-    shrink(rt, seated)
-}
-
-fn counts<J: NodeName, R: Wait + Abort>(rt: &R, alloc: Global, list: NewList) -> Result<(), Fail>
-    requires { list ≡ (J.book, J.kind) }
-{
-    let mut seated = new_seated::<J, R>(rt, alloc, list)?;
-    grow_and_shrink(rt, &mut seated)
-}
+/// Of 400 rows four are replaced. A page, a delta, a get and a range of few rows have room where a full snapshot and a range of
+/// many have none; fewer bytes leave room for the front and the streams.
+static ROOMS: [(Does, Tells); 16] = [
+    (Does::Wide(1, 400, 0), (0, 2, 0)),
+    (Does::Wide(2, 4, 4), (0, 3, 0)),
+    (Does::Whole, (0, 404, 0)),
+    (Does::Range(400), (0, 400, 0)),
+    (Does::Keep(4_000), (0, 0, 0)),
+    (Does::Whole, (90, 0, 0)),
+    (Does::Range(400), (90, 0, 0)),
+    (Does::LatestRange(400), (90, 0, 0)),
+    (Does::Range(2), (0, 2, 0)),
+    (Does::Get(1, 2), (0, 0, 0)),
+    (Does::Delta(1), (0, 8, 0)),
+    (Does::WidePage(1_000), (0, 400, 0)),
+    (Does::Keep(100), (0, 0, 0)),
+    (Does::Delta(1), (90, 0, 0)),
+    (Does::Streams, (0, 3, 2)),
+    (Does::Front, (0, 0, 2)),
+];
 
 #[test]
 fn an_answer_without_room_is_refused(rt: HostRuntime) -> Result<(), Fail> {
-    let alloc = rt.alloc();
-    rooms::<Brand, _>(&rt, alloc, NewList::new(config()?))
-}
-
-/// Whether this is refused for want of memory.
-fn lacks<X: Drop>(answer: Result<X, Refusal>) -> bool {
-    match answer {
-        Ok(it) => {
-            drop(it);
-            false
-        }
-        Err(why) => why == Refusal::Memory,
-    }
-}
-
-/// Whether it isn't refused.
-fn given<X: Drop>(answer: Result<X, Refusal>) -> bool {
-    match answer {
-        Ok(it) => {
-            drop(it);
-            true
-        }
-        Err(_) => false,
-    }
-}
-
-/// All rows of table 3 with keys up to a bound.
-fn up_to(key: u64) -> Query {
-    Query::Range {
-        table: Table::new(3),
-        low: Key::new(1),
-        high: Key::new(key),
-    }
-}
-
-/// A page, a delta, a get and a range of few rows have room where a full snapshot and a range of many have none.
-fn few_have_room<J: NodeName, R: Abort>(rt: &R, seat: &mut ReaderSeat<J>) -> Result<(), Fail> {
-    let (base, at) = (time(1)?, time(2)?);
-    assert!(rt; given(seat.ask(at, &up_to(2))));
-    assert!(rt; given(seat.ask(at, &get(1))));
-    assert!(rt; given(seat.delta_since(base)));
-    assert!(rt; given(seat.page(at, Table::new(3), Key::new(1), Key::new(400), 1_000)));
-    Ok(())
-}
-
-fn many_have_none<J: NodeName, R: Abort>(rt: &R, seat: &mut ReaderSeat<J>) -> Result<(), Fail> {
-    let (at, many) = (time(2)?, up_to(400));
-    assert!(rt; lacks(seat.whole()));
-    assert!(rt; lacks(seat.ask(at, &many)));
-    assert!(rt; lacks(seat.latest(&many)));
-    Ok(())
-}
-
-fn all_have_room<J: NodeName, R: Abort>(rt: &R, seat: &mut ReaderSeat<J>) -> Result<(), Fail> {
-    let at = time(2)?;
-    assert!(rt; given(seat.whole()));
-    assert!(rt; given(seat.ask(at, &up_to(400))));
-    Ok(())
-}
-
-/// What a limit of few bytes refuses, and what it doesn't.
-fn little_has_room<J: NodeName, R: Abort>(rt: &R, seat: &mut ReaderSeat<J>) -> Result<(), Fail> {
-    let base = time(1)?;
-    assert!(rt; lacks(seat.delta_since(base)));
-    assert!(rt; given(seat.streams()));
-    assert!(rt; given(seat.front()));
-    Ok(())
-}
-
-fn within<J: NodeName, R: Abort>(rt: &R, seat: &mut ReaderSeat<J>) -> Result<(), Fail> {
-    all_have_room(rt, seat)?;
-    seat.keep_within(4_000);
-    many_have_none(rt, seat)?;
-    few_have_room(rt, seat)?;
-    seat.keep_within(100);
-    little_has_room(rt, seat)
-}
-
-/// A wide entry and a narrow one, and what then has room.
-fn joined_within<J: NodeName, R: Wait + Abort, S: Wait + Drop>(
-    rt: &R,
-    seated: &mut Seated<J, S>,
-) -> Result<(), Fail> {
-    join_wide(rt, seated, 1, 400, 0)?;
-    join_wide(rt, seated, 2, 4, 4)?;
-    within(rt, &mut seated.seat)
-}
-
-fn rooms<J: NodeName, R: Wait + Abort>(rt: &R, alloc: Global, list: NewList) -> Result<(), Fail>
-    requires { list ≡ (J.book, J.kind) }
-{
-    let mut seated = new_seated::<J, R>(rt, alloc, list)?;
-    joined_within(rt, &mut seated)
+    day(&rt, rt.alloc(), false, &ROOMS)
 }

@@ -38,7 +38,7 @@ fn joins_all<J: NodeName, R: Wait, S: Wait + Drop>(
     node: &Node<J, S>,
 ) -> Result<(), Fail> {
     for number in 1..=4 {
-        node.join(rt, fragment(alloc, &[number])?)?;
+        node.join(rt, fragment(alloc, number)?)?;
     }
     Ok(())
 }
