@@ -2,11 +2,12 @@
 
 ghost use Rattle.std.specs.Prelude.{◌≡◌};
 
+use super::rows::all_at_last;
 use super::sizes::{agrees, wide_fragment};
 use super::*;
 use hk_delta::{join, whole_of};
 use hk_model::{Front, Page, StreamsTold};
-use hk_node::{Hold, Receipt};
+use hk_node::{Hold, NodeSizes, Receipt};
 use hk_state::ReplicaState;
 
 /// A step, in plain numbers.
@@ -213,6 +214,15 @@ fn told_facts(answer: Result<Fragment, Refusal>) -> Tells {
     }
 }
 
+/// Whether a node says of itself what a count of its snapshot says, and how many rows it has.
+fn told_sizes(sizes: Result<NodeSizes, Refusal>, whole: Result<Fragment, Refusal>) -> Tells {
+    match (sizes, whole) {
+        (Ok(sizes), Ok(whole)) => (0, u64::from(agrees(&sizes, &whole)), sizes.rows),
+        (Err(why), _) => refused(why),
+        (_, Err(why)) => refused(why),
+    }
+}
+
 /// All rows of table 3 with keys up to a bound.
 fn up_to(key: u64) -> Query {
     Query::Range {
@@ -223,7 +233,7 @@ fn up_to(key: u64) -> Query {
 }
 
 impl<J: NodeName, S: Wait + Drop> Game<J, S> {
-    /// What is told of a pin, which is kept with 42 too.
+    /// The number of operations and that of the pin, and the pin, which comes back with 42 too.
     fn hold<R: Wait>(&mut self, rt: &R, at: Time) -> (Tells, Option<Hold>) {
         match self.node.hold(rt, at) {
             Ok((hold, receipt)) => ((0, receipt.ops(), hold.reader), Some(hold)),
@@ -299,10 +309,7 @@ impl<J: NodeName, S: Wait + Drop> Game<J, S> {
     /// A step that asks how much the node holds, or what there may be no room for.
     fn weigh(&mut self, does: Does) -> Result<Tells, Fail> {
         Ok(match does {
-            Does::Sizes => {
-                let (is_agreed, rows) = agrees(&self.seat.sizes()?, &self.seat.whole()?);
-                (0, u64::from(is_agreed), rows)
-            }
+            Does::Sizes => told_sizes(self.seat.sizes(), self.seat.whole()),
             Does::Keep(room) => {
                 self.seat.keep_within(room);
                 (0, 0, 0)
@@ -348,7 +355,7 @@ impl<J: NodeName, S: Wait + Drop> Game<J, S> {
 }
 
 /// A node of log 7 with one stream and two reader slots.
-pub(super) fn new_game<J: NodeName, R: Wait>(
+fn new_game<J: NodeName, R: Wait>(
     rt: &R,
     alloc: Global,
     list: NewList,
@@ -357,19 +364,21 @@ pub(super) fn new_game<J: NodeName, R: Wait>(
     requires { list ≡ (J.book, J.kind) }
 {
     let (node, mut seats) = start::<J, &R>(rt, alloc, list, 2)?;
-    let seat = seats.pop().ok_or("seat")?;
-    Ok(Game {
-        alloc,
-        node,
-        seat,
-        holds: Vec::new(alloc),
-        number: 0,
-        settles,
-    })
+    match seats.pop() {
+        Some(seat) => Ok(Game {
+            alloc,
+            node,
+            seat,
+            holds: Vec::new(alloc),
+            number: 0,
+            settles,
+        }),
+        None => Err(Fail::from("no seat")),
+    }
 }
 
 /// Each step returns what it should.
-pub(super) fn plays<J: NodeName, R: Wait + Abort, S: Wait + Drop>(
+fn plays<J: NodeName, R: Wait + Abort, S: Wait + Drop>(
     rt: &R,
     game: &mut Game<J, S>,
     rows: &[(Does, Tells)],
@@ -380,17 +389,20 @@ pub(super) fn plays<J: NodeName, R: Wait + Abort, S: Wait + Drop>(
     Ok(())
 }
 
-/// The same in a new node.
-fn steps<J: NodeName, R: Wait + Abort>(
+/// In a new node each of some changes comes at last, of which one request for memory is refused, and then each step returns
+/// what it should.
+pub(super) fn steps<J: NodeName, R: Wait + Abort>(
     rt: &R,
     alloc: Global,
     list: NewList,
     settles: bool,
+    changes: (&[Does], usize),
     rows: &[(Does, Tells)],
 ) -> Result<(), Fail>
     requires { list ≡ (J.book, J.kind) }
 {
     let mut game = new_game::<J, R>(rt, alloc, list, settles)?;
+    all_at_last(rt, &mut game, changes.0, changes.1)?;
     plays(rt, &mut game, rows)
 }
 
@@ -411,8 +423,8 @@ pub(super) fn day<R: Wait + Abort>(
     is_guarded: bool,
     rows: &[(Does, Tells)],
 ) -> Result<(), Fail> {
-    steps::<Brand, R>(rt, alloc, new_list(is_guarded)?, false, rows)?;
-    steps::<Brand, R>(rt, alloc, new_list(is_guarded)?, true, rows)
+    steps::<Brand, R>(rt, alloc, new_list(is_guarded)?, false, (&[], 0), rows)?;
+    steps::<Brand, R>(rt, alloc, new_list(is_guarded)?, true, (&[], 0), rows)
 }
 
 /// All items.

@@ -1,8 +1,6 @@
 //! Changes, pins, refusals and failed nodes, and what a change leaves that finds no memory: steps, each with what it returns.
 
-ghost use Rattle.std.specs.Prelude.{◌≡◌};
-
-use super::playing::{ALL, Does, Game, Tells, day, new_game, new_list, plays};
+use super::playing::{ALL, Does, Game, Tells, day, new_list, steps};
 use super::*;
 
 /// A prune stops at the least pinned time, and goes on once the pin is released; a merge that would pass one is refused.
@@ -126,69 +124,75 @@ static NEWEST: [(Does, Tells); 14] = [
     (Does::Streams, (0, 3, 3)),
 ];
 
-#[test]
-fn one_day(rt: HostRuntime) -> Result<(), Fail> {
-    let alloc = rt.alloc();
-    day(&rt, alloc, false, &A_HOLD)?;
-    day(&rt, alloc, false, &HOLDS)?;
-    day(&rt, alloc, false, &AGAIN)?;
-    day(&rt, alloc, false, &DAMAGE)?;
-    day(&rt, alloc, false, &NEWEST)?;
-    day(&rt, alloc, true, &HOLDS)?;
-    day(&rt, alloc, true, &GUARDED)?;
-    day(&rt, alloc, true, &MERGED)?;
-    day(&rt, alloc, true, &CLOSED)
+/// The lists of steps, the last four of which are of guarded nodes.
+fn list_of(number: u8) -> &'static [(Does, Tells)] {
+    match number {
+        0 => &A_HOLD,
+        1 => &AGAIN,
+        2 => &DAMAGE,
+        3 => &NEWEST,
+        5 => &GUARDED,
+        6 => &MERGED,
+        7 => &CLOSED,
+        _ => &HOLDS,
+    }
 }
 
 #[test]
-fn each_request_refused(rt: HostRuntime) -> Result<(), Fail> {
-    let alloc = rt.alloc();
-    for turn in 0..=4 * MOST_REQUESTS + 3 {
-        let list = new_list(turn % 2 == 1)?;
-        waits::<Brand, _>(&rt, alloc, list, turn / 2 % 2 == 1, turn / 4)?;
+fn one_day(rt: HostRuntime) -> Result<(), Fail> {
+    for number in 0..=8 {
+        day(&rt, rt.alloc(), number >= 5, list_of(number))?;
     }
     Ok(())
 }
 
-/// More than any change of `waits` makes.
-const MOST_REQUESTS: usize = 80;
-
-/// A change that waits returned its operation, and readers see what they saw before, until it is published.
-fn publishes<J: NodeName, R: Wait + Abort, S: Wait + Drop>(
-    rt: &R,
-    game: &mut Game<J, S>,
-    before: Tells,
-    ops: u64,
-) -> Result<(), Fail> {
-    let first = game.play(rt, Does::Publish)?;
-    assert!(rt; first.0 == 0 || game.front() == before);
-    game.number = 0;
-    assert!(rt; game.play(rt, Does::Publish)?.1 == ops);
+#[test]
+fn each_request_refused(rt: HostRuntime) -> Result<(), Fail> {
+    for turn in 0..=4 * MOST_REQUESTS + 3 {
+        let (list, settles) = (new_list(turn % 2 == 1)?, turn / 2 % 2 == 1);
+        steps::<Brand, _>(&rt, rt.alloc(), list, settles, (&CHANGES, turn / 4), &AFTER)?;
+    }
     Ok(())
 }
 
-/// Makes a change of whose requests for memory one is refused, and again where that refused it, until it is the
-/// operation number `ops`. Where it is refused 90, or waits to be published, readers see what they saw before.
-fn at_last<J: NodeName, R: Wait + Abort, S: Wait + Drop>(
+/// More than any of the changes makes.
+const MOST_REQUESTS: usize = 80;
+
+/// A change that waits is published, with one request refused and with none, and readers see what they saw before until then.
+fn published<J: NodeName, R: Wait, S: Wait + Drop>(
+    rt: &R,
+    game: &mut Game<J, S>,
+    before: Tells,
+) -> Result<Tells, Fail> {
+    let first = game.play(rt, Does::Publish)?;
+    if first.0 > 0 && game.front() != before {
+        return Ok(first);
+    }
+    game.number = 0;
+    game.play(rt, Does::Publish)
+}
+
+/// Makes a change of whose requests for memory one is refused, and again where that refused it: whether it is the operation
+/// number `ops` then. Where it is refused 90, or waits to be published, readers see what they saw before.
+fn is_at_last<J: NodeName, R: Wait, S: Wait + Drop>(
     rt: &R,
     game: &mut Game<J, S>,
     does: Does,
     number: usize,
     ops: u64,
-) -> Result<(), Fail> {
+) -> Result<bool, Fail> {
     let before = game.front();
     game.number = number;
     let mut told = game.play(rt, does)?;
-    assert!(rt; told.0 == 0 || game.front() == before);
+    let is_hidden = told.0 == 0 || game.front() == before;
     if told.0 == 42 {
-        publishes(rt, game, before, ops)?;
+        told = published(rt, game, before)?;
     } else if told.0 == 90 {
         game.number = 0;
         told = game.play(rt, does)?;
     }
     game.number = 0;
-    assert!(rt; told.1 == ops && (told.0 == 0 || told.0 == 42));
-    Ok(())
+    Ok(is_hidden && told.1 == ops && (told.0 == 0 || told.0 == 42))
 }
 
 /// Changes, of each of which one request for memory is refused: they are the operations from 2 on. The numbers of the
@@ -209,28 +213,17 @@ static AFTER: [(Does, Tells); 3] = [
     (Does::Get(5, 3), (0, 0x42, 0)),
 ];
 
-/// Each of the changes, with one request refused.
-fn all_at_last<J: NodeName, R: Wait + Abort, S: Wait + Drop>(
+/// Each of some changes comes at last, with one request refused.
+pub(super) fn all_at_last<J: NodeName, R: Wait + Abort, S: Wait + Drop>(
     rt: &R,
     game: &mut Game<J, S>,
+    changes: &[Does],
     number: usize,
 ) -> Result<(), Fail> {
-    for (place, does) in CHANGES.iter().enumerate() {
-        at_last(rt, game, *does, number, (place as u64).saturating_add(2))?;
+    let mut ops: u64 = 1;
+    for does in changes {
+        ops = ops.saturating_add(1);
+        assert!(rt; is_at_last(rt, game, *does, number, ops)?);
     }
     Ok(())
-}
-
-fn waits<J: NodeName, R: Wait + Abort>(
-    rt: &R,
-    alloc: Global,
-    list: NewList,
-    settles: bool,
-    number: usize,
-) -> Result<(), Fail>
-    requires { list ≡ (J.book, J.kind) }
-{
-    let mut game = new_game::<J, R>(rt, alloc, list, settles)?;
-    all_at_last(rt, &mut game, number)?;
-    plays(rt, &mut game, &AFTER)
 }

@@ -22,10 +22,9 @@ fn counted(whole: &Fragment) -> (u64, u64, u64) {
     sizes
 }
 
-/// Whether a node says of itself what a count of its snapshot says, and how many rows it has.
-pub(super) fn agrees(sizes: &NodeSizes, whole: &Fragment) -> (bool, u64) {
-    let told = (sizes.rows, sizes.ends, sizes.bytes);
-    (told == counted(whole), sizes.rows)
+/// Whether a node says of itself what a count of its snapshot says.
+pub(super) fn agrees(sizes: &NodeSizes, whole: &Fragment) -> bool {
+    (sizes.rows, sizes.ends, sizes.bytes) == counted(whole)
 }
 
 /// The ends of the versions that the entry before this one put of the keys up to a bound. The first entry ends none.

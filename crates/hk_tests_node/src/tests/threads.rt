@@ -4,49 +4,83 @@ ghost use Rattle.std.specs.Prelude.{◌≡◌};
 
 use super::*;
 
+/// Two readers ask their fronts, while three entries and a mark are joined one by one; then for key 5, while a thousand entries
+/// that put it are.
 #[test]
 fn readers_beside_a_writer(rt: HostRuntime) -> Result<(), Fail> {
-    let alloc = rt.alloc();
-    fronts::<Brand, _>(&rt, alloc, NewList::new(config()?))?;
-    keys::<Brand, _>(&rt, alloc, NewList::new(config()?))
-}
-
-/// A reader asks its front a thousand times, while three entries and a mark are joined one by one.
-fn fronts<J: NodeName + Send + Sync, R: Threads + Wait + Abort + Sync>(
-    rt: &R,
-    alloc: Global,
-    list: NewList,
-) -> Result<(), Fail>
-    requires { list ≡ (J.book, J.kind) }
-{
-    let (node, mut seats) = start::<J, &R>(rt, alloc, list, 1)?;
-    let seat = seats.pop().ok_or("seat")?;
-    let node = &node;
-    let (wrote, read) = thread::join(
-        rt,
-        move || joins_all(rt, alloc, node),
-        move || reads_fronts(seat),
-    );
-    wrote?;
-    assert!(rt; read);
-    Ok(())
-}
-
-fn joins_all<J: NodeName, R: Wait, S: Wait + Drop>(
-    rt: &R,
-    alloc: Global,
-    node: &Node<J, S>,
-) -> Result<(), Fail> {
-    for number in 1..=4 {
-        node.join(rt, fragment(alloc, number)?)?;
+    for of_key in [false, true] {
+        let list = NewList::new(config()?);
+        assert!(rt; beside::<Brand, _>(&rt, rt.alloc(), list, of_key)?);
     }
     Ok(())
 }
 
-fn reads_fronts<J: NodeName>(mut seat: ReaderSeat<J>) -> bool {
+/// Whether two readers see what they may beside a writer.
+fn beside<J: NodeName + Send + Sync, R: Threads + Wait + Sync>(
+    rt: &R,
+    alloc: Global,
+    list: NewList,
+    of_key: bool,
+) -> Result<bool, Fail>
+    requires { list ≡ (J.book, J.kind) }
+{
+    let (node, seats) = start::<J, &R>(rt, alloc, list, 2)?;
+    let node = &node;
+    let (wrote, read) = thread::join(
+        rt,
+        move || joins(rt, alloc, node, of_key),
+        move || both_read(rt, seats, of_key),
+    );
+    wrote?;
+    Ok(read)
+}
+
+fn joins<J: NodeName, R: Wait, S: Wait + Drop>(
+    rt: &R,
+    alloc: Global,
+    node: &Node<J, S>,
+    of_key: bool,
+) -> Result<(), Fail> {
+    let last: u16 = if of_key { 1000 } else { 4 };
+    for number in 1..=last {
+        node.join(rt, joined(alloc, number, of_key)?)?;
+    }
+    Ok(())
+}
+
+/// What the writer joins.
+fn joined(alloc: Global, number: u16, of_key: bool) -> Result<Fragment, Fail> {
+    if of_key {
+        put_of(alloc, number)
+    } else {
+        fragment(alloc, u64::from(number))
+    }
+}
+
+fn both_read<J: NodeName + Send + Sync, R: Threads + Sync>(
+    rt: &R,
+    mut seats: Vec<ReaderSeat<J>>,
+    of_key: bool,
+) -> bool {
+    let (Some(one), Some(two)) = (seats.pop(), seats.pop()) else {
+        return false;
+    };
+    let (left, right) = thread::join(rt, move || reads(one, of_key), move || reads(two, of_key));
+    left && right
+}
+
+fn reads<J: NodeName>(mut seat: ReaderSeat<J>, of_key: bool) -> bool {
+    if of_key {
+        reads_key(&mut seat)
+    } else {
+        reads_fronts(&mut seat)
+    }
+}
+
+fn reads_fronts<J: NodeName>(seat: &mut ReaderSeat<J>) -> bool {
     for _ in 0..1000u64 {
         let before = seat.seen();
-        let Ok((0, 0 | 3)) = front(&mut seat) else {
+        let Ok((0, 0 | 3)) = front(seat) else {
             return false;
         };
         if seat.seen() < before {
@@ -54,36 +88,6 @@ fn reads_fronts<J: NodeName>(mut seat: ReaderSeat<J>) -> bool {
         }
     }
     true
-}
-
-/// Two readers ask for key 5, while a thousand entries that put it are joined one by one.
-fn keys<J: NodeName + Send + Sync, R: Threads + Wait + Abort + Sync>(
-    rt: &R,
-    alloc: Global,
-    list: NewList,
-) -> Result<(), Fail>
-    requires { list ≡ (J.book, J.kind) }
-{
-    let (node, mut seats) = start::<J, &R>(rt, alloc, list, 2)?;
-    let one = seats.pop().ok_or("seat")?;
-    let two = seats.pop().ok_or("seat")?;
-    let node = &node;
-    let (wrote, read) = thread::join(
-        rt,
-        move || joins_each(rt, alloc, node),
-        move || both_read(rt, one, two),
-    );
-    wrote?;
-    assert!(rt; read.0 && read.1);
-    Ok(())
-}
-
-fn both_read<J: NodeName + Send + Sync, R: Threads + Sync>(
-    rt: &R,
-    one: ReaderSeat<J>,
-    two: ReaderSeat<J>,
-) -> (bool, bool) {
-    thread::join(rt, move || reads_keys(one), move || reads_keys(two))
 }
 
 /// The entry that puts its number at key 5 and ends the one before it, and the mark of all entries up to it.
@@ -107,17 +111,6 @@ fn put_of(alloc: Global, number: u16) -> Result<Fragment, Fail> {
     Ok(fragment_of(alloc, config()?, &items)?)
 }
 
-fn joins_each<J: NodeName, R: Wait, S: Wait + Drop>(
-    rt: &R,
-    alloc: Global,
-    node: &Node<J, S>,
-) -> Result<(), Fail> {
-    for number in 1..=1000u16 {
-        node.join(rt, put_of(alloc, number)?)?;
-    }
-    Ok(())
-}
-
 /// The resolved time, where the list that was seen determines it, and the body there.
 fn agreed_time<J: NodeName>(seat: &mut ReaderSeat<J>) -> Option<u64> {
     let Ok((0, readable)) = front(seat) else {
@@ -133,9 +126,9 @@ fn agreed_time<J: NodeName>(seat: &mut ReaderSeat<J>) -> Option<u64> {
 }
 
 /// The list that was seen determines the node's resolved time, and the body at each time.
-fn reads_keys<J: NodeName>(mut seat: ReaderSeat<J>) -> bool {
+fn reads_key<J: NodeName>(seat: &mut ReaderSeat<J>) -> bool {
     for _ in 0..100_000u64 {
-        match agreed_time(&mut seat) {
+        match agreed_time(seat) {
             None => return false,
             Some(1000) => return true,
             Some(_) => {}

@@ -7,7 +7,7 @@ use hk_types::Config;
 use std::alloc::Global;
 use std::test::Fail;
 
-/// What a world of log 7 with one stream and one replica tells of a mark, and of its absorption.
+/// What a world of log 7 with one stream and one replica returns for a mark, and for its absorption.
 fn told(alloc: Global) -> Result<Vec<Told>, Fail> {
     let (config, stream) = (Config::new(7, 1)?, stream(1)?);
     let mut events = Vec::new(alloc);

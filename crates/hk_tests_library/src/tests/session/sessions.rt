@@ -35,8 +35,8 @@ fn a_replica_has_no_requests_of_version_2(rt: HostRuntime) -> Result<(), Fail> {
     Ok(())
 }
 
-/// A session takes a request to wait and one for its front, and is told that it has waited: its steps, how much it wrote at the
-/// first, and how it ends.
+/// A session takes a request to wait and one for its front, and then it has waited: its steps, how much it wrote at the first,
+/// and how it ends.
 fn waiting(alloc: Global, out: &mut Vec<u8>) -> Result<(Step, usize, Step, Ended), Fail> {
     let asked = bytes_of(
         alloc,
