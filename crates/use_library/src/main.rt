@@ -1,7 +1,8 @@
-//! The library in three small programs: a replica that is fed and asked, two half-fed replicas joined, a primary.
+//! The library in four small programs: a replica that is fed and asked, two half-fed replicas joined, a primary, a running node.
 #![tactic(auto)]
 
 mod merge;
+mod node;
 mod primary;
 mod replica;
 
@@ -11,6 +12,7 @@ use hk_query::Answer;
 use hk_types::Refusal;
 use std::alloc::{AllocError, Global};
 use std::io::{self, Read};
+use std::sync::Wait;
 use std::thread::Threads;
 
 /// The line of an answer, or of a refusal.
@@ -35,6 +37,18 @@ fn logged(alloc: Global) -> Result<String, AllocError> {
     }
 }
 
+/// What the two readers of a node get, to which the items of these bytes are pushed.
+fn node_told<R: Threads + Wait + Sync>(
+    rt: &R,
+    alloc: Global,
+    bytes: &[u8],
+) -> Result<String, AllocError> {
+    match node::filled(rt, alloc, bytes) {
+        Ok(lines) => Ok(lines),
+        Err(why) => line_of(alloc, &why),
+    }
+}
+
 fn main(rt: HostRuntime) -> io::Result<()> {
     let mut bytes = Vec::new(rt.alloc());
     rt.reader().read_to_end(&mut bytes)?;
@@ -45,5 +59,6 @@ fn main(rt: HostRuntime) -> io::Result<()> {
     }
     let count = counted(&rt, rt.alloc(), &bytes);
     print!(rt; "{}", told(rt.alloc(), count)?)?;
-    print!(rt; "{}", logged(rt.alloc())?)
+    print!(rt; "{}", logged(rt.alloc())?)?;
+    print!(rt; "{}", node_told(&rt, rt.alloc(), &bytes)?)
 }

@@ -1,5 +1,4 @@
 //! A running node that items are pushed to, and two readers that ask it and take no lock.
-#![tactic(auto)]
 
 ghost use Rattle.std.specs.Prelude.{◌≡◌};
 
@@ -10,7 +9,6 @@ use hk_node::{NewList, Node, NodeName, ReaderSeat, start};
 use hk_query::Query;
 use hk_types::{Config, Key, Refusal, Table, Time};
 use std::alloc::Global;
-use std::io::{self, Read};
 use std::marker::Brand;
 use std::sync::Wait;
 use std::thread::Threads;
@@ -70,7 +68,7 @@ fn fragment<R: Threads + Sync>(
 }
 
 /// What the readers of a node of log 7 get, which has one stream and is pushed the stream's items.
-fn filled<R: Threads + Wait + Sync>(
+pub(crate) fn filled<R: Threads + Wait + Sync>(
     rt: &R,
     alloc: Global,
     bytes: &[u8],
@@ -78,14 +76,4 @@ fn filled<R: Threads + Wait + Sync>(
     let config = Config::new(7, 1)?;
     let pushed = fragment(rt, alloc, config, bytes)?;
     told::<Brand, R>(rt, alloc, NewList::new(config), pushed)
-}
-
-fn main(rt: HostRuntime) -> io::Result<()> {
-    let mut bytes = Vec::new(rt.alloc());
-    rt.reader().read_to_end(&mut bytes)?;
-    let lines = match filled(&rt, rt.alloc(), &bytes) {
-        Ok(lines) => lines,
-        Err(why) => line_of(rt.alloc(), &why)?,
-    };
-    print!(rt; "{lines}")
 }
