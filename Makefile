@@ -28,7 +28,7 @@ SEED = 1
 
 all: bin/hkrep
 
-SOURCES := $(shell find crates -name out -prune -o -name must-fail -prune -o -name 'hk_tests_*' -prune -o -type f -print) crates.txt HANDLES
+SOURCES := $(shell find crates -name out -prune -o -name must-fail -prune -o -name hk_tests -prune -o -type f -print) crates.txt HANDLES
 
 # made anew where a source changed
 bin/hkrep: $(SOURCES) tests/tools/build

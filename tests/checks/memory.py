@@ -639,8 +639,8 @@ def every_push():
 # Tests that arm the library themselves, by crate, and the least number of requests that they let fail: a node's changes, holds,
 # releases and publishes (39); the fragment that several workers build (some 300, by how they take turns); and one that is given in parts and
 # put together from them (26).
-TESTS = (("hk_tests_node", "tests::rows::each_request_refused", 30), ("hk_tests_library", "tests::batch::each_request_refused", 200),
-         ("hk_tests_library", "tests::batch::splitting::each_request_of_parts_refused", 20))
+TESTS = (("hk_tests", "tests::node::rows::each_request_refused", 30), ("hk_tests", "tests::batch::each_request_refused", 200),
+         ("hk_tests", "tests::batch::splitting::each_request_of_parts_refused", 20))
 
 
 def refused_in_tests():

@@ -1,4 +1,0 @@
-use Rattle.hk_tests_node.proofs.tests.playing.day.Given as goal
-
-abbrev pub ghosts-steps : goal.ghosts-steps
-ghosts-steps g a = record { book = a.list.0; kind = a.list.1 }

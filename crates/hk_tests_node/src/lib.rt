@@ -1,5 +1,0 @@
-//! Tests of the running node.
-#![tactic(auto)]
-
-#[cfg(test)]
-mod tests;
