@@ -1,4 +1,0 @@
-mod JoinRequests
-mod Seen
-mod ChangeReplies
-mod WaitingChanges

@@ -1,4 +1,3 @@
 pub mod Faults
 pub mod Pins
-pub mod Replying
 pub mod Serving

@@ -11,7 +11,7 @@ use Rattle.hk_oplog.specs.declared.op.Op.{Op}
 use Rattle.hk_oplog.specs.declared.op.Op.TheVariants.{Hold as HoldAt, Release}
 use Rattle.hk_node.specs.Changes.{IsGiven, IsHandedBack, IsRefusedHold}
 use Rattle.hk_oplog.specs.Lists.{last_of}
-use Rattle.hk_host.specs.Replying.{IsChangeReply}
+use Rattle.hk_seats.specs.Replying.{IsChangeReply}
 
 -- a hold at this time was given as the last operation of a list that the seat knows now, and did not know before
 abbrev pub KnowsHold : List Op → List Op → ℕ → Hold → Type 0

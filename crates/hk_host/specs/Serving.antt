@@ -10,11 +10,7 @@ use Rattle.hk_messages.specs.declared.reply.Reply.{Reply}
 use Rattle.hk_link.specs.LaterReplying.{AreLetGo, MayReplyBoth}
 use Rattle.hk_link.specs.LinkStates.{LinkStateValue, LinkValue}
 use Rattle.hk_link.specs.NodeSides.{Sided}
-use Rattle.hk_host.specs.Replying.{MayOnlyRead, MayReply}
-
--- a session of a host in version 1, which is given back
-abbrev pub ServesHost : {S R W : Type 0} → (S → Request → Reply → S → Type 0) → S → (R → Option (List ℕ)) → CountedValue R → CountedValue R → (W → Option (List ℕ)) → CountedValue W → CountedValue W → Ended × S → Type 0
-ServesHost may host remaining reader reader_after contents old new result = Serves 1 may host result.1 remaining reader reader_after contents old new result.0
+use Rattle.hk_seats.specs.Replying.{MayOnlyRead, MayReply}
 
 -- how the session ended, and the seat's list after it
 abbrev pub Outcome : Type 0

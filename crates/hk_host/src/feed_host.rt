@@ -1,31 +1,20 @@
 //! A host over a running node and one seat of it, through which items come in and nothing else.
 
-ghost use Rattle.std.specs.Prelude.{◌≡◌, true, false};
-ghost use Rattle.hk_host.specs.Replying.{IsFed, IsUnfed, MayFeed};
+ghost use Rattle.std.specs.Prelude.{◌≡◌};
+ghost use Rattle.hk_seats.specs.Replying.{MayFeed};
 
 use crate::node_host::NodeHost;
 use hk_delta::Fragment;
 use hk_link::NodeSide;
 use hk_model::{Answer, Front, Page, Query, StreamsTold};
 use hk_node::{Hold, NodeName, NodeSizes, ReaderSeat};
+use hk_seats::{is_fed, no_kind};
 use hk_session::Host;
 use hk_types::{Key, Refusal, Table, Time};
 use hk_wire::{Reply, Request};
 use std::marker::Model;
 use std::sync::Wait;
 use std::thread::Threads;
-
-/// Whether a request has a meaning for a feeder's connection: the others are refused.
-fn is_fed(request: &Request) -> bool
-    ensures fed { result ≡ true → IsFed request.now }
-    ensures unfed { result ≡ false → IsUnfed request.now }
-{
-    match request {
-        Request::JoinThis(_) | Request::MergeThis(_) | Request::Later(_) => false,
-        Request::Prune { .. } => false,
-        _ => true,
-    }
-}
 
 /// A host over a running node and one seat of it, through which items come in and nothing else: what a feeder's connection has.
 /// Contracts see it as the list of operations that the seat has seen or got a receipt of.
@@ -78,7 +67,7 @@ impl<'a, J: NodeName, N: Wait + Drop, R: Threads + Wait + Sync> Host for FeedHos
         if is_fed(&request) {
             return self.inner.answer(request);
         }
-        self.inner.reads.no_kind(request)
+        no_kind(&self.inner.reads.seat, request)
     }
 }
 

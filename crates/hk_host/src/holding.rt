@@ -49,7 +49,7 @@ pub(crate) fn hold_on<J: NodeName, N: Wait + Drop, R: Wait>(
             }
         },
         Err((hold, why)) => {
-            let _known = reads.config();
+            let _known = reads.seat.seen();
             tell_refused(rt, teller, &why);
             Err((hold, why))
         }
@@ -80,7 +80,7 @@ pub(crate) fn release_on<J: NodeName, N: Wait + Drop, R: Wait>(
             }
         },
         Err((back, why)) => {
-            let _known = reads.config();
+            let _known = reads.seat.seen();
             tell_refused(rt, teller, &why);
             Err((back, why))
         }

@@ -4,9 +4,10 @@ ghost use Rattle.std.specs.Prelude.{◌≡◌, length, IfOk};
 
 use crate::fault::NetFault;
 use crate::node_host::NodeHost;
-use crate::sessions::{serve_parts, serve_plain};
+use crate::sessions::serve_parts;
 use hk_link::{LinkState, NodeSide, PartsBudget, PartsHost};
 use hk_node::{Node, NodeName, ReaderSeat};
+use hk_seats::{all_ends, serve_plain};
 use hk_session::{AtOnce, Counted, Ended};
 use std::alloc::{AllocError, Global};
 use std::io::Read;
@@ -147,17 +148,6 @@ fn join_all<R: Threads>(rt: &R, links: Vec<LinkThread>, ends: &mut Vec<Ended>) -
     are_added
 }
 
-/// All ends, of so many connections.
-fn all_ends(ends: Vec<Ended>, count: usize) -> Result<Vec<Ended>, NetFault>
-    ensures { IfOk result (λ all. length all.items ≡ count) }
-{
-    // True here: each seat had a connection, and each connection an end.
-    if ends.len() == count {
-        return Ok(ends);
-    }
-    Err(NetFault::Memory)
-}
-
 /// Accepts as many connections as there are seats, and runs the session of each, over a `NodeHost`, in a thread of its
 /// own, with one of the seats. Returns how each ended, in the order in which they were accepted, once all have ended.
 ///
@@ -195,10 +185,11 @@ pub fn serve_links<
             if !join_all(rt, links, &mut ends) {
                 return Err(NetFault::Memory);
             }
-            match fault {
-                Some(fault) => Err(fault),
-                None => all_ends(ends, count),
+            if let Some(fault) = fault {
+                return Err(fault);
             }
+            // All are there: each seat had a connection, and each connection an end.
+            all_ends(ends, count).ok_or(NetFault::Memory)
         },
     )
 }

@@ -1,29 +1,21 @@
 //! A host over a running node and one seat of it.
 
-ghost use Rattle.std.specs.Prelude.{◌≡◌, ◌<◌, true, length, take, IfOk, IfErr, OnOk, OnErr};
+ghost use Rattle.std.specs.Prelude.{◌≡◌, true};
 ghost use Rattle.std.specs.Thread.{IsSync};
 ghost use mathlib.Core.List.{IsPrefix};
-ghost use Rattle.hk_model.specs.Replica.Rules.{gather_result};
-ghost use Rattle.hk_delta.specs.Gathers.{Gathers};
-ghost use Rattle.hk_types.specs.declared.faults.Refusal.TheVariants.{Unpublished};
 ghost use Rattle.hk_messages.specs.Replies.{reply_seen};
-ghost use Rattle.hk_oplog.specs.declared.op.Op.{Op};
-ghost use Rattle.hk_oplog.specs.declared.op.Op.TheVariants.{Join, Prune as PruneTo};
-ghost use Rattle.hk_node.specs.Changes.{ChangesSome};
-ghost use Rattle.hk_node.specs.Guarded.{TakesSome};
-ghost use Rattle.hk_oplog.specs.NewItems.{new_to};
 ghost use Rattle.hk_oplog.specs.Replay.{is_legal};
-ghost use Rattle.hk_host.specs.Replying.{IsChangeReply, IsFedReply, IsItemsReply, IsReplyToItems, IsTold, MayReply, items_reply};
+ghost use Rattle.hk_seats.specs.Replying.{MayReply};
+ghost use Rattle.hk_seats.specs.Telling.{GoesOnBy};
 
 use crate::holding::{hold_on, release_on, tell_changed, tell_refused};
 use crate::link_events::Teller;
 use crate::seat_host::SeatHost;
-use hk_batch::{OpenGate, build};
-use hk_delta::{Fragment, fragment_of};
+use hk_delta::Fragment;
 use hk_link::NodeSide;
-use hk_log::Item;
 use hk_model::{Answer, Front, Page, Query, StreamsTold};
-use hk_node::{Hold, Node, NodeName, NodeSizes, ReaderSeat, Receipt};
+use hk_node::{Hold, Node, NodeName, NodeSizes, ReaderSeat};
+use hk_seats::{answer_at, is_change};
 use hk_session::Host;
 use hk_types::{Key, Refusal, Table, Time};
 use hk_wire::{LaterReply, Reply, Request};
@@ -31,12 +23,6 @@ use std::alloc::Global;
 use std::marker::Model;
 use std::sync::Wait;
 use std::thread::Threads;
-
-/// How many items a list has at least that several workers gather.
-const LONG_LIST: usize = 4_096;
-
-/// How many workers gather a long list.
-const WORKERS: usize = 4;
 
 /// A host over a running node, which others share, and one seat of that node. Contracts see it as the list of
 /// operations that the seat has seen or got a receipt of.
@@ -125,22 +111,6 @@ impl<'a, J: NodeName, N: Wait + Drop, R: Threads + Wait + Sync> NodeHost<'a, J, 
         self.reads.into_seat()
     }
 
-    /// Applies the receipt of a change, and returns the number of its operations.
-    fn learn(&mut self, receipt: Receipt<J>) -> Result<u64, Refusal>
-        ensures legal { is_legal self.new ≡ true }
-        ensures seen { IsPrefix self.old self.new }
-        ensures done { IfOk result (λ ops. ops ≡ length receipt) }
-        ensures told { OnOk result (IsPrefix receipt self.new) }
-        ensures later { OnOk result (length self.old < length receipt) }
-        ensures waits { IfErr result (λ why. why ≡ Unpublished (length receipt)) }
-        ensures kept { OnErr result (self.new ≡ self.old) }
-    {
-        let ops = self.reads.learn(receipt)?;
-        self.tell_marks();
-        tell_changed(self.rt, self.teller, ops);
-        Ok(ops)
-    }
-
     /// Wakes who waits for a time that is readable now.
     fn tell_marks(&mut self)
         ensures legal { is_legal self.new ≡ true }
@@ -160,7 +130,7 @@ impl<'a, J: NodeName, N: Wait + Drop, R: Threads + Wait + Sync> NodeHost<'a, J, 
     fn tell_refused(&self, why: &Refusal)
         ensures { is_legal self.now ≡ true }
     {
-        let is_guarded = self.reads.is_guarded();
+        let is_guarded = self.reads.seat.is_guarded();
         tell_refused(self.rt, self.teller, why);
         if let (Some(teller), Refusal::Conflict, false) = (self.teller, why, is_guarded) {
             if self.node.hold_refusal(self.rt, Time::zero()) == Refusal::Damaged {
@@ -169,135 +139,28 @@ impl<'a, J: NodeName, N: Wait + Drop, R: Threads + Wait + Sync> NodeHost<'a, J, 
         }
     }
 
-    /// The reply to a change that the node answered so.
-    fn reply(&mut self, answered: Result<Receipt<J>, Refusal>) -> Reply
+    /// Reports a change that took effect, so that the node's list has so many operations, and wakes who waits for a time that is readable
+    /// by it.
+    fn tell_made(&mut self, ops: u64)
         ensures legal { is_legal self.new ≡ true }
         ensures seen { IsPrefix self.old self.new }
-        ensures told { (o : Op) → ChangesSome J.kind o answered → IsChangeReply J.kind self.old self.new o (reply_seen result) }
     {
-        match answered {
-            Ok(receipt) => match self.learn(receipt) {
-                Ok(ops) => Reply::Done { ops },
-                Err(why) => {
-                    self.tell_refused(&why);
-                    Reply::Refused(why)
-                }
-            },
-            Err(why) => {
-                self.tell_refused(&why);
-                Reply::Refused(why)
-            }
-        }
+        self.tell_marks();
+        tell_changed(self.rt, self.teller, ops);
     }
 
-    /// A prune.
-    fn prune(&mut self, horizon: Time) -> Reply
+    /// Reports what came of a change.
+    fn tell(&mut self, reply: &Reply)
         ensures legal { is_legal self.new ≡ true }
-        ensures seen { IsPrefix self.old self.new }
-        ensures told { IsChangeReply J.kind self.old self.new (PruneTo horizon) (reply_seen result) }
+        ensures goes { GoesOnBy (reply_seen reply.now) self.old self.new }
     {
-        match self.node.prune(self.rt, horizon) {
-            Ok((_, receipt)) => self.reply(Ok(receipt)),
-            Err(why) => self.reply(Err(why)),
-        }
-    }
-
-    /// The one fragment that items make. A long list is gathered by several workers, which are waited for.
-    fn gather(&self, items: &[Item]) -> Result<Fragment, Refusal>
-        ensures legal { is_legal self.now ≡ true }
-        ensures gives { Gathers J.kind.config items.now result }
-    {
-        let config = self.reads.config();
-        if items.len() < LONG_LIST {
-            return fragment_of(self.alloc, config, items);
-        }
-        build(self.rt, self.alloc, config, items, WORKERS, &OpenGate)
-    }
-
-    /// A fragment that items made, to a node that is not guarded: it is joined. Returns the number of operations, and how many
-    /// of the items were new.
-    fn join_gathered(&mut self, fragment: Fragment, items: &[Item]) -> Result<(u64, u64), Refusal>
-        ensures legal { is_legal self.new ≡ true }
-        ensures seen { IsPrefix self.old self.new }
-        ensures told { IsChangeReply J.kind self.old self.new (Join fragment) (items_reply result) }
-        ensures new { IfOk result (λ t. t.1 ≡ new_to (take t.0 self.new) items.now) }
-    {
-        match self.node.join_gathered(self.rt, fragment, items) {
-            Ok((new, receipt)) => match self.learn(receipt) {
-                Ok(ops) => Ok((ops, new)),
-                Err(why) => Err(why),
-            },
-            Err(why) => Err(why),
-        }
-    }
-
-    /// Items to a node that is not guarded: the fragment that they make is joined.
-    fn gather_and_join(&mut self, items: &[Item]) -> Result<(u64, u64), Refusal>
-        ensures legal { is_legal self.new ≡ true }
-        ensures seen { IsPrefix self.old self.new }
-        ensures told { IsItemsReply J.kind self.old self.new (gather_result J.kind.config items.now) (items_reply result) }
-        ensures new { IfOk result (λ t. t.1 ≡ new_to (take t.0 self.new) items.now) }
-    {
-        match self.gather(items) {
-            Ok(fragment) => self.join_gathered(fragment, items),
-            Err(why) => Err(why),
-        }
-    }
-
-    /// Items to a guarded node: they are applied where each agrees with what it holds, and with those before it.
-    fn take(&mut self, items: &[Item]) -> Result<(u64, u64), Refusal>
-        ensures legal { is_legal self.new ≡ true }
-        ensures seen { IsPrefix self.old self.new }
-        ensures told { IsTold (TakesSome J.kind items.now) self.old self.new (items_reply result) }
-        ensures new { IfOk result (λ t. t.1 ≡ new_to (take t.0 self.new) items.now) }
-    {
-        match self.node.take(self.rt, items) {
-            Ok((new, receipt)) => match self.learn(receipt) {
-                Ok(ops) => Ok((ops, new)),
-                Err(why) => Err(why),
-            },
-            Err(why) => Err(why),
-        }
-    }
-
-    fn take_items(&mut self, items: &[Item]) -> Result<(u64, u64), Refusal>
-        ensures legal { is_legal self.new ≡ true }
-        ensures seen { IsPrefix self.old self.new }
-        ensures told { IsReplyToItems J.kind self.old self.new items.now (items_reply result) }
-        ensures new { IfOk result (λ t. t.1 ≡ new_to (take t.0 self.new) items.now) }
-    {
-        if self.reads.is_guarded() {
-            return self.take(items);
-        }
-        self.gather_and_join(items)
-    }
-
-    fn items(&mut self, items: &[Item]) -> Reply
-        ensures legal { is_legal self.new ≡ true }
-        ensures seen { IsPrefix self.old self.new }
-        ensures told { IsReplyToItems J.kind self.old self.new items.now (reply_seen result) }
-    {
-        match self.take_items(items) {
-            Ok((ops, _)) => Reply::Done { ops },
-            Err(why) => {
-                self.tell_refused(&why);
-                Reply::Refused(why)
-            }
-        }
-    }
-
-    /// The same, where the reply has how many of the items were new.
-    fn feed(&mut self, items: &[Item]) -> Reply
-        ensures legal { is_legal self.new ≡ true }
-        ensures seen { IsPrefix self.old self.new }
-        ensures told { IsFedReply J.kind self.old self.new items.now (reply_seen result) }
-    {
-        match self.take_items(items) {
-            Ok((ops, new)) => Reply::Later(LaterReply::Fed { ops, new }),
-            Err(why) => {
-                self.tell_refused(&why);
-                Reply::Later(LaterReply::Refused(why))
-            }
+        let _known = self.reads.seat.seen();
+        match reply {
+            Reply::Done { ops } => self.tell_made(*ops),
+            Reply::Later(LaterReply::Fed { ops, .. }) => self.tell_made(*ops),
+            Reply::Refused(why) => self.tell_refused(why),
+            Reply::Later(LaterReply::Refused(why)) => self.tell_refused(why),
+            _ => {}
         }
     }
 }
@@ -308,16 +171,13 @@ impl<'a, J: NodeName, N: Wait + Drop, R: Threads + Wait + Sync> Host for NodeHos
     ghost ready = { λ _. IsSync R.row };
 
     fn answer(&mut self, request: Request) -> Reply {
-        match request {
-            Request::Items(items) => self.items(&items),
-            Request::Feed(items) => self.feed(&items),
-            Request::JoinThis(fragment) | Request::MergeThis(fragment) => {
-                let answered = self.node.join(self.rt, fragment);
-                self.reply(answered)
-            }
-            Request::Prune { horizon } => self.prune(horizon),
-            other => self.reads.answer(other),
+        let is_told = is_change(&request);
+        let seat = &mut self.reads.seat;
+        let reply = answer_at(self.rt, self.alloc, self.node, seat, request);
+        if is_told {
+            self.tell(&reply);
         }
+        reply
     }
 }
 
@@ -370,7 +230,7 @@ impl<'a, J: NodeName, N: Wait + Drop, R: Threads + Wait + Sync> NodeSide for Nod
     }
 
     fn hold_refusal(&mut self, time: Time) -> Refusal {
-        let _known = self.reads.config();
+        let _known = self.reads.seat.seen();
         self.node.hold_refusal(self.rt, time)
     }
 

@@ -2,20 +2,17 @@
 
 ghost use Rattle.std.specs.Prelude.{◌≡◌, ◌<◌, true, length, IfOk, IfErr, OnOk, OnErr};
 ghost use mathlib.Core.List.{IsPrefix};
-ghost use Rattle.hk_types.specs.declared.faults.FormFault.TheVariants.{BadKind};
-ghost use Rattle.hk_types.specs.declared.faults.Refusal.TheVariants.{Form, Unpublished};
-ghost use Rattle.hk_messages.specs.Replies.{Refused, reply_seen};
-ghost use Rattle.hk_state_host.specs.Steps.{query_reply, fragment_reply};
-ghost use Rattle.hk_oplog.specs.Replay.{is_legal, replay};
-ghost use Rattle.hk_oplog.specs.Replies.{node_delta, node_front, node_reply, node_whole};
-ghost use Rattle.hk_host.specs.Replying.{IsOrOutOfMemory, MayOnlyRead, front_reply};
+ghost use Rattle.hk_types.specs.declared.faults.Refusal.TheVariants.{Unpublished};
+ghost use Rattle.hk_oplog.specs.Replay.{is_legal};
+ghost use Rattle.hk_seats.specs.Replying.{MayOnlyRead};
 
 use hk_delta::Fragment;
 use hk_link::NodeSide;
 use hk_model::{Answer, Front, Page, Query, StreamsTold};
 use hk_node::{Hold, NodeName, NodeSizes, ReaderSeat, Receipt};
+use hk_seats::{learn, read_at};
 use hk_session::Host;
-use hk_types::{Config, FormFault, Key, Refusal, Table, Time};
+use hk_types::{FormFault, Key, Refusal, Table, Time};
 use hk_wire::{Reply, Request};
 use std::marker::Model;
 
@@ -26,7 +23,7 @@ use std::marker::Model;
 /// kind that has no meaning here, and nothing changed. Cost: that of the seat's calls.
 #[derive(Drop)]
 pub struct SeatHost<J: NodeName> {
-    seat: ReaderSeat<J>,
+    pub(crate) seat: ReaderSeat<J>,
 }
 
 impl<J: NodeName> Model for SeatHost<J> {
@@ -61,24 +58,7 @@ impl<J: NodeName> SeatHost<J> {
         self.seat
     }
 
-    /// The log that the node is of.
-    pub(crate) fn config(&self) -> Config
-        ensures log { result ≡ J.kind.config }
-        ensures legal { is_legal self.now ≡ true }
-    {
-        let _known = self.seat.seen();
-        self.seat.config()
-    }
-
-    /// Whether the node is guarded.
-    pub(crate) fn is_guarded(&self) -> bool
-        ensures { result ≡ J.kind.guarded }
-    {
-        self.seat.is_guarded()
-    }
-
-    /// Applies the receipt of a change that was just made, and returns the number of its operations, more than the seat had
-    /// seen. A receipt of no more than that doesn't come; the change is reported then as one that waits to be shown.
+    /// Applies the receipt of a change that was just made, as hk_seats's `learn`.
     pub(crate) fn learn(&mut self, receipt: Receipt<J>) -> Result<u64, Refusal>
         ensures legal { is_legal self.new ≡ true }
         ensures seen { IsPrefix self.old self.new }
@@ -88,66 +68,7 @@ impl<J: NodeName> SeatHost<J> {
         ensures waits { IfErr result (λ why. why ≡ Unpublished (length receipt)) }
         ensures kept { OnErr result (self.new ≡ self.old) }
     {
-        let ops = receipt.ops();
-        if ops <= self.seat.seen() {
-            return Err(Refusal::Unpublished { ops });
-        }
-        self.seat.learn(receipt);
-        let _known = self.seat.seen();
-        Ok(ops)
-    }
-
-    /// The reply to a request that has no meaning here, which is dropped.
-    pub(crate) fn no_kind<C: Drop>(&self, _asked: C) -> Reply
-        ensures legal { is_legal self.now ≡ true }
-        ensures told { reply_seen result ≡ Refused (Form BadKind) }
-    {
-        let _known = self.seat.seen();
-        Reply::Refused(Refusal::Form(FormFault::BadKind))
-    }
-
-    pub(crate) fn front(&mut self) -> Reply
-        ensures legal { is_legal self.new ≡ true }
-        ensures seen { IsPrefix self.old self.new }
-        ensures told { IsOrOutOfMemory (front_reply (node_front (replay self.new))) (reply_seen result) }
-    {
-        match self.seat.front() {
-            Ok(front) => Reply::Front(front),
-            Err(why) => Reply::Refused(why),
-        }
-    }
-
-    pub(crate) fn delta(&mut self, base: Time) -> Reply
-        ensures legal { is_legal self.new ≡ true }
-        ensures seen { IsPrefix self.old self.new }
-        ensures told { IsOrOutOfMemory (fragment_reply (node_delta (replay self.new) base)) (reply_seen result) }
-    {
-        match self.seat.delta_since(base) {
-            Ok(fragment) => Reply::Fragment(fragment),
-            Err(why) => Reply::Refused(why),
-        }
-    }
-
-    pub(crate) fn whole(&mut self) -> Reply
-        ensures legal { is_legal self.new ≡ true }
-        ensures seen { IsPrefix self.old self.new }
-        ensures told { IsOrOutOfMemory (fragment_reply (node_whole (replay self.new))) (reply_seen result) }
-    {
-        match self.seat.whole() {
-            Ok(fragment) => Reply::Fragment(fragment),
-            Err(why) => Reply::Refused(why),
-        }
-    }
-
-    pub(crate) fn ask(&mut self, time: Time, query: &Query) -> Reply
-        ensures legal { is_legal self.new ≡ true }
-        ensures seen { IsPrefix self.old self.new }
-        ensures told { IsOrOutOfMemory (query_reply (node_reply (replay self.new) time query.now)) (reply_seen result) }
-    {
-        match self.seat.ask(time, query) {
-            Ok(answer) => Reply::Answer(answer),
-            Err(why) => Reply::Refused(why),
-        }
+        learn(&mut self.seat, receipt)
     }
 }
 
@@ -155,13 +76,7 @@ impl<J: NodeName> Host for SeatHost<J> {
     ghost may = { MayOnlyRead };
 
     fn answer(&mut self, request: Request) -> Reply {
-        match request {
-            Request::Front => self.front(),
-            Request::Delta { base } => self.delta(base),
-            Request::Full => self.whole(),
-            Request::Ask { t, query } => self.ask(t, &query),
-            other => self.no_kind(other),
-        }
+        read_at(&mut self.seat, request)
     }
 }
 

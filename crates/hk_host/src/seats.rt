@@ -7,8 +7,8 @@ ghost use Rattle.hk_host.specs.Serving.{ServesNode, ServesReader};
 
 use crate::node_host::NodeHost;
 use crate::seat_host::SeatHost;
-use crate::sessions::serve_plain;
 use hk_node::{Node, NodeName, ReaderSeat};
+use hk_seats::serve_plain;
 use hk_session::{Counted, Ended};
 use std::alloc::Global;
 use std::io::{Read, Write};

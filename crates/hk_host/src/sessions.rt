@@ -1,34 +1,13 @@
-//! One session over a host of a seat.
+//! One session in both versions over a host of a seat.
 
 ghost use Rattle.std.specs.Prelude.{◌≡◌};
 ghost use mathlib.Core.List.{IsPrefix};
-ghost use Rattle.hk_host.specs.Serving.{Runs, ServesHost};
+ghost use Rattle.hk_host.specs.Serving.{Runs};
 
 use hk_link::{LinkState, NodeSide, PartsHost};
-use hk_session::{Counted, Ended, Waiter, serve, serve_waiting};
+use hk_session::{Counted, Ended, Waiter, serve_waiting};
 use std::alloc::Global;
 use std::io::{Read, Write};
-
-/// Runs one session in version 1 over a host, as `serve`, and returns how it ended, with the host. Cost: that of the session.
-pub fn serve_plain<H: NodeSide + Drop, I: Read + Drop, O: Write + Drop>(
-    alloc: Global,
-    host: H,
-    reader: &mut Counted<I>,
-    writer: &mut Counted<O>,
-) -> (Ended, H)
-    requires reader { reader.old.faults ≡ 0 }
-    requires writer { writer.old.faults ≡ 0 }
-    requires ready { H.ready host }
-    ensures seen { IsPrefix (H.side.list host) (H.side.list result.1) }
-    // The bytes read, and what was done and written for them.
-    ensures transcript { ServesHost H.may host
-        I.remaining reader.old reader.new O.contents writer.old writer.new result }
-{
-    H::laws();
-    let mut served = host;
-    let ended = serve::<1, _, _, _>(alloc, reader, writer, &mut served);
-    (ended, served)
-}
 
 /// Runs the session of a connection in both versions, as `serve` over a `PartsHost`. However it ends, the release of each pin
 /// that the connection has then is asked for, and of no other, as `PartsHost::end` does. Returns how it ended, the host for

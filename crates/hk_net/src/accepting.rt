@@ -17,9 +17,9 @@ use std::time::Duration;
 const ACCEPT_PAUSE: u64 = 100;
 
 /// Leaves a connection for the worker of its place, and wakes it. Returns false where there is none, or no memory for it.
-fn leave<J: NodeName, N: Wait + Drop, R: Wait, const LATEST: u8>(
+fn leave<J: NodeName, N: Wait + Drop, R: Wait>(
     rt: &R,
-    shop: &Shop<'_, J, N, LATEST>,
+    shop: &Shop<'_, J, N>,
     accepted: Accepted,
     door: usize,
     place: usize,
@@ -39,9 +39,9 @@ fn leave<J: NodeName, N: Wait + Drop, R: Wait, const LATEST: u8>(
 }
 
 /// Accepts the next connection of a door at a free place, and leaves it for a worker.
-fn accept_next<J: NodeName, N: Wait + Drop, R: Wait + Clock, const LATEST: u8>(
+fn accept_next<J: NodeName, N: Wait + Drop, R: Wait + Clock>(
     rt: &R,
-    shop: &Shop<'_, J, N, LATEST>,
+    shop: &Shop<'_, J, N>,
     number: usize,
     door: &Door<'_, J, N>,
     places: &Places,
@@ -68,9 +68,9 @@ fn accept_next<J: NodeName, N: Wait + Drop, R: Wait + Clock, const LATEST: u8>(
 }
 
 /// Accepts connections of a door without an end.
-pub(crate) fn accept_all<J: NodeName, N: Wait + Drop, R: Wait + Clock, const LATEST: u8>(
+pub(crate) fn accept_all<J: NodeName, N: Wait + Drop, R: Wait + Clock>(
     rt: &R,
-    shop: &Shop<'_, J, N, LATEST>,
+    shop: &Shop<'_, J, N>,
     number: usize,
     teller: Teller<'_>,
 ) {

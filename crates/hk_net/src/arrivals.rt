@@ -9,7 +9,7 @@ use std::sync::{Mutex, Wait};
 
 /// What is left for a worker.
 #[derive(Drop)]
-pub(crate) enum Arrival<'d, J: NodeName, const LATEST: u8> {
+pub(crate) enum Arrival<'d, J: NodeName> {
     /// A connection that was accepted at a door, with its place.
     Opened {
         accepted: Accepted,
@@ -18,7 +18,7 @@ pub(crate) enum Arrival<'d, J: NodeName, const LATEST: u8> {
     },
     /// A connection of another worker that asks for something long, and what that worker's seat has seen: it is shown no less here.
     Moved {
-        link: Box<Link<'d, LATEST>, Global>,
+        link: Box<Link<'d>, Global>,
         seen: Receipt<J>,
     },
 }

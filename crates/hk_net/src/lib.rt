@@ -9,6 +9,7 @@ mod accepting;
 mod arrivals;
 mod doors;
 mod link;
+mod link_session;
 mod links;
 mod places;
 mod reactor;

@@ -1,12 +1,13 @@
 //! A connection of a worker: its socket, its session, and what waits between them.
 
 use crate::doors::Limits;
+use crate::link_session::LinkSession;
 use crate::sockets::Socket;
 use crate::waiting::Awaited;
 use crate::writing::{MOST_HELD, Unwritten};
 use hk_doors::FrameWatch;
 use hk_link::{LinkState, Meters};
-use hk_session::{Ended, Session};
+use hk_session::Ended;
 use std::alloc::Global;
 
 /// For how many milliseconds what a peer still sends is read and dropped once its session has ended, so that it can read the last reply:
@@ -67,12 +68,12 @@ pub(crate) struct Pipe<'d> {
 
 /// A connection of a worker.
 #[derive(Drop)]
-pub(crate) struct Link<'d, const LATEST: u8> {
+pub(crate) struct Link<'d> {
     /// The number of its door, and its place among the connections of all doors.
     pub(crate) door: usize,
     pub(crate) place: usize,
     pub(crate) pipe: Pipe<'d>,
-    pub(crate) session: Session<LATEST>,
+    pub(crate) session: LinkSession,
     /// What it keeps beside its worker's seat, and how many bytes of that are reserved for its pipe.
     pub(crate) kept: Option<LinkState<'d>>,
     pub(crate) reserved: u64,
@@ -184,21 +185,22 @@ impl<'d> Pipe<'d> {
     }
 }
 
-impl<'d, const LATEST: u8> Link<'d, LATEST> {
-    /// A connection that was just accepted. It keeps nothing yet.
+impl<'d> Link<'d> {
+    /// A connection that was just accepted, answered in both versions or in version 1. It keeps nothing yet.
     pub(crate) fn new(
         alloc: Global,
         socket: Socket,
         door: usize,
         place: usize,
         now: u64,
+        in_both: bool,
         meters: &'d Meters<'d>,
-    ) -> Link<'d, LATEST> {
+    ) -> Link<'d> {
         Link {
             door,
             place,
             pipe: Pipe::new(alloc, socket, now, meters),
-            session: Session::new(alloc),
+            session: LinkSession::new(alloc, in_both),
             kept: None,
             reserved: 0,
             has_let_go: false,
@@ -235,7 +237,7 @@ impl<'d, const LATEST: u8> Link<'d, LATEST> {
         self.pipe.cut(Ended::Memory);
         self.pipe.unwritten.drop_all();
         self.pipe.rest = Vec::new(self.pipe.alloc);
-        self.session = Session::new(self.pipe.alloc);
+        self.session = self.session.anew(self.pipe.alloc);
     }
 
     /// The same at once where much stands, so that a reply for which there is no room is dropped before another one is made.

@@ -24,21 +24,21 @@ const WAIT_PAUSE: u64 = 100;
 
 /// The sockets that a worker waits for, who is notified, and its connections.
 #[derive(Drop)]
-pub(crate) struct Reactor<'w, 'd, R: Wait + Clock + 'w, const LATEST: u8> {
+pub(crate) struct Reactor<'w, 'd, R: Wait + Clock + 'w> {
     pub(crate) rt: &'w R,
     pub(crate) staff: &'w Staff<'d>,
     pub(crate) poll: Poll,
     pub(crate) teller: Teller<'w>,
-    pub(crate) worker: Worker<'d, LATEST>,
+    pub(crate) worker: Worker<'d>,
 }
 
-impl<'w, 'd, R: Wait + Clock + 'w, const LATEST: u8> Reactor<'w, 'd, R, LATEST> {
+impl<'w, 'd, R: Wait + Clock + 'w> Reactor<'w, 'd, R> {
     /// That of a worker that begins, with room for what the system says.
     pub(crate) fn begin(
         rt: &'w R,
         staff: &'w Staff<'d>,
         tools: Tools<'w>,
-    ) -> (Reactor<'w, 'd, R, LATEST>, Events) {
+    ) -> (Reactor<'w, 'd, R>, Events) {
         let Tools {
             alloc,
             number,
@@ -94,7 +94,7 @@ impl<'w, 'd, R: Wait + Clock + 'w, const LATEST: u8> Reactor<'w, 'd, R, LATEST> 
     }
 
     /// Takes a connection off what waits for a time, for its turn. Returns false where it waits for a time: it is cut, or it has none.
-    pub(crate) fn begin_turn(&mut self, token: usize, link: &mut Link<'d, LATEST>) -> bool {
+    pub(crate) fn begin_turn(&mut self, token: usize, link: &mut Link<'d>) -> bool {
         self.look_at_clock();
         let Some(awaited) = link.pipe.awaited else {
             return true;
@@ -118,7 +118,7 @@ impl<'w, 'd, R: Wait + Clock + 'w, const LATEST: u8> Reactor<'w, 'd, R, LATEST> 
     }
 
     /// Ends a connection: its socket is closed, and its slot is free.
-    pub(crate) fn close(&mut self, token: usize, link: Box<Link<'d, LATEST>, Global>) {
+    pub(crate) fn close(&mut self, token: usize, link: Box<Link<'d>, Global>) {
         let (ended, door, place) = (link.pipe.end(), link.door, link.place);
         drop(link);
         self.worker.links.free(token);
@@ -139,14 +139,15 @@ impl<'w, 'd, R: Wait + Clock + 'w, const LATEST: u8> Reactor<'w, 'd, R, LATEST> 
         accepted: Accepted,
         door: usize,
         place: usize,
-    ) -> Option<Box<Link<'d, LATEST>, Global>> {
-        let (alloc, now, meters) = (self.worker.alloc, self.worker.now, self.staff.meters);
+    ) -> Option<Box<Link<'d>, Global>> {
+        let (alloc, now, staff) = (self.worker.alloc, self.worker.now, self.staff);
         let socket = accepted.into_socket().ok()?;
-        Box::new(alloc, Link::new(alloc, socket, door, place, now, meters)).ok()
+        let link = Link::new(alloc, socket, door, place, now, staff.in_both, staff.meters);
+        Box::new(alloc, link).ok()
     }
 
     /// Takes in a connection. Where there is no memory for it, it is closed.
-    pub(crate) fn enter(&mut self, link: Box<Link<'d, LATEST>, Global>) {
+    pub(crate) fn enter(&mut self, link: Box<Link<'d>, Global>) {
         let mut link = link;
         let Ok(token) = self.worker.links.new_token() else {
             self.refuse(link.door, link.place);
@@ -161,7 +162,7 @@ impl<'w, 'd, R: Wait + Clock + 'w, const LATEST: u8> Reactor<'w, 'd, R, LATEST> 
 
     /// Writes the replies of a connection that is handed to another worker, and has its socket's events come here no more. Returns whether
     /// it can be.
-    pub(crate) fn lets_leave(&mut self, link: &mut Link<'d, LATEST>) -> bool {
+    pub(crate) fn lets_leave(&mut self, link: &mut Link<'d>) -> bool {
         link.end_round(self.worker.now);
         !link.pipe.is_cut && link.pipe.socket.deregister(self.poll.registry()).is_ok()
     }

@@ -19,13 +19,13 @@ use std::sync::Wait;
 use std::thread::Threads;
 
 /// The turn of a connection that may do everything.
-fn turn_open<'a, 'd, J: NodeName, N: Wait + Drop, R: Threads + Wait + Sync, const LATEST: u8>(
+fn turn_open<'a, 'd, J: NodeName, N: Wait + Drop, R: Threads + Wait + Sync>(
     rt: &'a R,
     node: &'a Node<J, N>,
     teller: &'a Teller<'a>,
-    worker: &mut Worker<'d, LATEST>,
+    worker: &mut Worker<'d>,
     moment: Moment,
-    link: &mut Link<'d, LATEST>,
+    link: &mut Link<'d>,
     seat: ReaderSeat<J>,
 ) -> (Turn, ReaderSeat<J>) {
     let host = NodeHost::telling(rt, worker.alloc, node, seat, teller);
@@ -34,13 +34,13 @@ fn turn_open<'a, 'd, J: NodeName, N: Wait + Drop, R: Threads + Wait + Sync, cons
 }
 
 /// The turn of a connection that sends items, and asks.
-fn turn_feeding<'a, 'd, J: NodeName, N: Wait + Drop, R: Threads + Wait + Sync, const LATEST: u8>(
+fn turn_feeding<'a, 'd, J: NodeName, N: Wait + Drop, R: Threads + Wait + Sync>(
     rt: &'a R,
     node: &'a Node<J, N>,
     teller: &'a Teller<'a>,
-    worker: &mut Worker<'d, LATEST>,
+    worker: &mut Worker<'d>,
     moment: Moment,
-    link: &mut Link<'d, LATEST>,
+    link: &mut Link<'d>,
     seat: ReaderSeat<J>,
 ) -> (Turn, ReaderSeat<J>) {
     let host = FeedHost::new(NodeHost::telling(rt, worker.alloc, node, seat, teller));
@@ -49,10 +49,10 @@ fn turn_feeding<'a, 'd, J: NodeName, N: Wait + Drop, R: Threads + Wait + Sync, c
 }
 
 /// The turn of a connection that asks.
-fn turn_reading<'d, J: NodeName, const LATEST: u8>(
-    worker: &mut Worker<'d, LATEST>,
+fn turn_reading<'d, J: NodeName>(
+    worker: &mut Worker<'d>,
     moment: Moment,
-    link: &mut Link<'d, LATEST>,
+    link: &mut Link<'d>,
     seat: ReaderSeat<J>,
 ) -> (Turn, ReaderSeat<J>) {
     let (turn, host) = worker.turn(moment, link, SeatHost::new(seat));
@@ -60,12 +60,12 @@ fn turn_reading<'d, J: NodeName, const LATEST: u8>(
 }
 
 /// Leaves a connection for a worker, with what this worker's seat has seen. It comes back where that can't be done.
-fn leave_moved<'d, J: NodeName, R: Wait, const LATEST: u8>(
+fn leave_moved<'d, J: NodeName, R: Wait>(
     rt: &R,
-    inbox: Option<&Inbox<Arrival<'d, J, LATEST>>>,
+    inbox: Option<&Inbox<Arrival<'d, J>>>,
     seat: Option<&ReaderSeat<J>>,
-    link: Box<Link<'d, LATEST>, Global>,
-) -> Option<Box<Link<'d, LATEST>, Global>> {
+    link: Box<Link<'d>, Global>,
+) -> Option<Box<Link<'d>, Global>> {
     let (Some(inbox), Some(seat)) = (inbox, seat) else {
         return Some(link);
     };
@@ -84,27 +84,25 @@ struct Serving<
     J: NodeName + 'w,
     N: Wait + Drop + 'w,
     R: Threads + Wait + Clock + Sync + 'w,
-    const LATEST: u8,
 > {
-    shop: &'w Shop<'d, J, N, LATEST>,
+    shop: &'w Shop<'d, J, N>,
     seat: Option<ReaderSeat<J>>,
-    reactor: Reactor<'w, 'd, R, LATEST>,
+    reactor: Reactor<'w, 'd, R>,
 }
 
-impl<
+impl<'w, 'd, J: NodeName + 'w, N: Wait + Drop + 'w, R: Threads + Wait + Clock + Sync + 'w> Serving<
     'w,
     'd,
-    J: NodeName + 'w,
-    N: Wait + Drop + 'w,
-    R: Threads + Wait + Clock + Sync + 'w,
-    const LATEST: u8,
-> Serving<'w, 'd, J, N, R, LATEST> {
+    J,
+    N,
+    R,
+> {
     /// The turn of a connection of a door, over a host of the seat, which is returned.
     fn turn_on(
         &mut self,
         door: &Door<'d, J, N>,
         moment: Moment,
-        link: &mut Link<'d, LATEST>,
+        link: &mut Link<'d>,
         seat: ReaderSeat<J>,
     ) -> (Turn, ReaderSeat<J>) {
         let Reactor {
@@ -121,7 +119,7 @@ impl<
     }
 
     /// The turn of a connection of a door.
-    fn turn(&mut self, door: &Door<'d, J, N>, moment: Moment, link: &mut Link<'d, LATEST>) -> Turn {
+    fn turn(&mut self, door: &Door<'d, J, N>, moment: Moment, link: &mut Link<'d>) -> Turn {
         let Some(seat) = self.seat.take() else {
             return Turn::Over;
         };
@@ -135,7 +133,7 @@ impl<
     }
 
     /// Leaves a connection for a worker that gives long answers, with what this worker's seat has seen. Where that can't be done it ends.
-    fn hand_over(&mut self, token: usize, link: Box<Link<'d, LATEST>, Global>) {
+    fn hand_over(&mut self, token: usize, link: Box<Link<'d>, Global>) {
         let mut link = link;
         if !self.reactor.lets_leave(&mut link) {
             self.reactor.worker.cut(token, link);
@@ -154,7 +152,7 @@ impl<
     }
 
     /// Does what a connection wants after its turn.
-    fn settle(&mut self, token: usize, turn: Turn, link: Box<Link<'d, LATEST>, Global>) {
+    fn settle(&mut self, token: usize, turn: Turn, link: Box<Link<'d>, Global>) {
         match turn {
             Turn::Over => self.reactor.close(token, link),
             Turn::Moves => self.hand_over(token, link),
@@ -163,7 +161,7 @@ impl<
     }
 
     /// The turn of the connection under a token, unless it waits for a time.
-    fn turn_of(&mut self, token: usize, link: &mut Link<'d, LATEST>) -> Turn {
+    fn turn_of(&mut self, token: usize, link: &mut Link<'d>) -> Turn {
         let Some(door) = self.shop.doors.get(link.door) else {
             return Turn::Over;
         };
@@ -215,7 +213,7 @@ impl<
     }
 
     /// Takes in what another left.
-    fn take_arrival(&mut self, arrival: Arrival<'d, J, LATEST>) {
+    fn take_arrival(&mut self, arrival: Arrival<'d, J>) {
         match arrival {
             Arrival::Opened {
                 accepted,
@@ -288,14 +286,12 @@ pub(crate) struct Tools<'w> {
 }
 
 /// Serves connections without an end, by a worker of this number.
-pub(crate) fn serve_worker<
-    'w,
-    'd,
-    J: NodeName,
-    N: Wait + Drop,
-    R: Threads + Wait + Clock + Sync,
-    const LATEST: u8,
->(rt: &'w R, shop: &'w Shop<'d, J, N, LATEST>, tools: Tools<'w>, seat: ReaderSeat<J>) {
+pub(crate) fn serve_worker<'w, 'd, J: NodeName, N: Wait + Drop, R: Threads + Wait + Clock + Sync>(
+    rt: &'w R,
+    shop: &'w Shop<'d, J, N>,
+    tools: Tools<'w>,
+    seat: ReaderSeat<J>,
+) {
     let (reactor, mut events) = Reactor::begin(rt, &shop.staff, tools);
     let mut serving = Serving {
         shop,

@@ -19,6 +19,8 @@ pub(crate) struct Staff<'d> {
     /// What wakes each of them.
     pub(crate) bell: Bell,
     pub(crate) limits: Limits,
+    /// Whether connections are answered in both versions, or in version 1.
+    pub(crate) in_both: bool,
     /// Where it is counted what connections do.
     pub(crate) meters: &'d Meters<'d>,
     /// Which workers have a thread, a bit for each.
@@ -27,10 +29,10 @@ pub(crate) struct Staff<'d> {
 
 /// What all threads of a node share.
 #[derive(Drop)]
-pub(crate) struct Shop<'d, J: NodeName, N: Wait + Drop, const LATEST: u8> {
+pub(crate) struct Shop<'d, J: NodeName, N: Wait + Drop> {
     pub(crate) doors: Vec<Door<'d, J, N>>,
     /// What is left for each worker.
-    pub(crate) inboxes: Vec<Inbox<Arrival<'d, J, LATEST>>>,
+    pub(crate) inboxes: Vec<Inbox<Arrival<'d, J>>>,
     pub(crate) staff: Staff<'d>,
 }
 

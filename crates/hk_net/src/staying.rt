@@ -59,10 +59,10 @@ fn places_of<J: NodeName, N: Wait + Drop>(
 }
 
 /// An empty inbox for each worker.
-fn inboxes_of<'d, J: NodeName, const LATEST: u8>(
+fn inboxes_of<'d, J: NodeName>(
     alloc: Global,
     count: usize,
-) -> Result<Vec<Inbox<Arrival<'d, J, LATEST>>>, AllocError> {
+) -> Result<Vec<Inbox<Arrival<'d, J>>>, AllocError> {
     let mut inboxes = Vec::with_capacity(alloc, count)?;
     for _ in 0..count {
         inboxes.push(Inbox::new(alloc))?;
@@ -99,11 +99,10 @@ fn start_worker<
     J: NodeName + Send + Sync,
     N: Wait + Drop + Send + Sync,
     R: Threads + Wait + Clock + Sync,
-    const LATEST: u8,
 >(
     scope: &Scope<'s, E>,
     rt: &'s R,
-    shop: &'s Shop<'d, J, N, LATEST>,
+    shop: &'s Shop<'d, J, N>,
     tools: Option<Tools<'s>>,
     seat: ReaderSeat<J>,
 ) -> bool {
@@ -123,12 +122,11 @@ fn start_door<
     J: NodeName + Send + Sync,
     N: Wait + Drop + Send + Sync,
     R: Threads + Wait + Clock + Sync,
-    const LATEST: u8,
 >(
     scope: &Scope<'s, E>,
     rt: &'s R,
     number: usize,
-    shop: &'s Shop<'d, J, N, LATEST>,
+    shop: &'s Shop<'d, J, N>,
     events: &Sender<(usize, LinkEvent)>,
 ) -> bool {
     match Teller::new(events, &shop.staff.bell) {
@@ -148,12 +146,11 @@ fn start_workers<
     N: Wait + Drop + Send + Sync,
     R: Threads + Wait + Clock + Sync,
     T: Watch,
-    const LATEST: u8,
 >(
     rt: &'s R,
     alloc: Global,
     scope: &Scope<'s, E>,
-    shop: &'s Shop<'d, J, N, LATEST>,
+    shop: &'s Shop<'d, J, N>,
     polls: Vec<Poll>,
     seats: Vec<ReaderSeat<J>>,
     events: &Sender<(usize, LinkEvent)>,
@@ -180,11 +177,10 @@ fn start_doors<
     N: Wait + Drop + Send + Sync,
     R: Threads + Wait + Clock + Sync,
     T: Watch,
-    const LATEST: u8,
 >(
     scope: &Scope<'s, E>,
     rt: &'s R,
-    shop: &'s Shop<'d, J, N, LATEST>,
+    shop: &'s Shop<'d, J, N>,
     events: &Sender<(usize, LinkEvent)>,
     watch: &mut T,
 ) -> bool {
@@ -207,11 +203,10 @@ fn serve_shop<
     N: Wait + Drop + Send + Sync,
     R: Threads + Wait + Clock + Sync,
     T: Watch,
-    const LATEST: u8,
 >(
     rt: &'s R,
     alloc: Global,
-    shop: &'s Shop<'d, J, N, LATEST>,
+    shop: &'s Shop<'d, J, N>,
     polls: Vec<Poll>,
     seats: Vec<ReaderSeat<J>>,
     watch: &mut T,
@@ -251,55 +246,42 @@ fn ring_first<J: NodeName>(bell: &Bell, seats: &mut Vec<ReaderSeat<J>>) {
     }
 }
 
-/// What all threads share, and the sets of sockets of the workers.
-fn shop_of<'d, J: NodeName, N: Wait + Drop, R: Net, const LATEST: u8>(
+/// What all threads share that has nothing of the node itself, and the sets of sockets of the workers.
+fn staff_of<'d, J: NodeName, N: Wait + Drop, R: Net>(
     rt: &R,
     alloc: Global,
-    doors: Vec<Door<'d, J, N>>,
+    doors: &[Door<'d, J, N>],
     workers: usize,
+    in_both: bool,
     limits: Limits,
     meters: &'d Meters<'d>,
-) -> Result<(Vec<Poll>, Shop<'d, J, N, LATEST>), NetFault> {
-    let inboxes = inboxes_of(alloc, workers)?;
-    let places = places_of(alloc, &doors)?;
+) -> Result<(Vec<Poll>, Staff<'d>), NetFault> {
+    let places = places_of(alloc, doors)?;
     let (polls, bell) = bell_of(rt, alloc, workers)?;
     let staff = Staff {
         places,
         workers,
         bell,
         limits,
+        in_both,
         meters,
         running: AtomicU64::new(0),
     };
-    let shop = Shop {
+    Ok((polls, staff))
+}
+
+/// What all threads share, with these doors.
+fn shop_of<'d, J: NodeName, N: Wait + Drop>(
+    alloc: Global,
+    doors: Vec<Door<'d, J, N>>,
+    staff: Staff<'d>,
+) -> Result<Shop<'d, J, N>, AllocError> {
+    let inboxes = inboxes_of(alloc, staff.workers)?;
+    Ok(Shop {
         doors,
         inboxes,
         staff,
-    };
-    Ok((polls, shop))
-}
-
-/// Serves connections in messages up to this version.
-fn serve_in<
-    'd,
-    J: NodeName + Send + Sync,
-    N: Wait + Drop + Send + Sync,
-    R: Net + Threads + Wait + Clock + Sync,
-    T: Watch,
-    const LATEST: u8,
->(
-    rt: &R,
-    alloc: Global,
-    doors: Vec<Door<'d, J, N>>,
-    seats: Vec<ReaderSeat<J>>,
-    limits: Limits,
-    meters: &'d Meters<'d>,
-    watch: &mut T,
-) -> Result<(), NetFault> {
-    let mut seats = seats;
-    let (polls, shop) = shop_of::<J, N, R, LATEST>(rt, alloc, doors, seats.len(), limits, meters)?;
-    ring_first(&shop.staff.bell, &mut seats);
-    serve_shop(rt, alloc, &shop, polls, seats, watch)
+    })
 }
 
 /// Serves connections without an end, with a worker for each seat: the first half of them give short answers, the others long ones. A
@@ -337,9 +319,9 @@ pub fn serve_forever<
     meters: &'d Meters<'d>,
     watch: &mut T,
 ) -> Result<(), NetFault> {
-    if in_both {
-        serve_in::<J, N, R, T, 2>(rt, alloc, doors, seats, limits, meters, watch)
-    } else {
-        serve_in::<J, N, R, T, 1>(rt, alloc, doors, seats, limits, meters, watch)
-    }
+    let mut seats = seats;
+    let (polls, staff) = staff_of(rt, alloc, &doors, seats.len(), in_both, limits, meters)?;
+    ring_first(&staff.bell, &mut seats);
+    let shop = shop_of(alloc, doors, staff)?;
+    serve_shop(rt, alloc, &shop, polls, seats, watch)
 }

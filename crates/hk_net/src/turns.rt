@@ -6,7 +6,7 @@ use crate::link::{Link, Pipe};
 use crate::writing::MOST_HELD;
 use hk_doors::Passes;
 use hk_link::{LinkState, NodeSide, PartsHost};
-use hk_session::{Ended, Host, Session, Step};
+use hk_session::{Ended, Host, Step};
 use hk_wire::{LaterReply, LaterRequest, Reply, Request};
 use std::io::ErrorKind;
 use std::mem;
@@ -207,7 +207,7 @@ impl Pipe<'_> {
     }
 }
 
-impl<'d, const LATEST: u8> Link<'d, LATEST> {
+impl<'d> Link<'d> {
     /// Ends the session at the end of its input; these bytes began a frame.
     fn end_input<H: Host>(&mut self, begun: &[u8], out: &mut Vec<u8>, host: &mut H) -> Step
         requires { H.ready host.old }
@@ -217,7 +217,8 @@ impl<'d, const LATEST: u8> Link<'d, LATEST> {
         if !matches!(step, Step::GoesOn) {
             return step;
         }
-        let session = mem::replace(&mut self.session, Session::new(self.pipe.alloc));
+        let fresh = self.session.anew(self.pipe.alloc);
+        let session = mem::replace(&mut self.session, fresh);
         Step::Ended(session.finish(out))
     }
 

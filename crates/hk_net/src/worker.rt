@@ -22,10 +22,10 @@ const LOOK_PAUSE: u64 = 100;
 
 /// A worker's connections, which of them wait, and its buffers.
 #[derive(Drop)]
-pub(crate) struct Worker<'d, const LATEST: u8> {
+pub(crate) struct Worker<'d> {
     pub(crate) alloc: Global,
     pub(crate) number: usize,
-    pub(crate) links: Links<Link<'d, LATEST>>,
+    pub(crate) links: Links<Link<'d>>,
     pub(crate) waiting: Waiting,
     pub(crate) piece: Vec<u8>,
     pub(crate) out: Vec<u8>,
@@ -41,14 +41,14 @@ pub(crate) struct Worker<'d, const LATEST: u8> {
     pub(crate) behind: Option<usize>,
 }
 
-impl<'d, const LATEST: u8> Worker<'d, LATEST> {
+impl<'d> Worker<'d> {
     /// A worker without connections, with a buffer for what it reads, and the door of the node that has yet to catch up.
     pub(crate) fn new(
         alloc: Global,
         number: usize,
         piece: Vec<u8>,
         behind: Option<usize>,
-    ) -> Worker<'d, LATEST> {
+    ) -> Worker<'d> {
         Worker {
             alloc,
             number,
@@ -69,7 +69,7 @@ impl<'d, const LATEST: u8> Worker<'d, LATEST> {
     pub(crate) fn turn<H: NodeSide + Drop>(
         &mut self,
         moment: Moment,
-        link: &mut Link<'d, LATEST>,
+        link: &mut Link<'d>,
         host: H,
     ) -> (Turn, H)
         requires { H.ready host }
@@ -190,13 +190,13 @@ impl<'d, const LATEST: u8> Worker<'d, LATEST> {
     }
 
     /// Puts a connection under its token, with a turn in the next round.
-    pub(crate) fn put_listed(&mut self, token: usize, link: Box<Link<'d, LATEST>, Global>) {
+    pub(crate) fn put_listed(&mut self, token: usize, link: Box<Link<'d>, Global>) {
         self.links.put(token, link);
         self.links.list(token);
     }
 
     /// Puts a connection that stays under its token after its turn, as it wants.
-    pub(crate) fn settle(&mut self, token: usize, turn: Turn, link: Box<Link<'d, LATEST>, Global>) {
+    pub(crate) fn settle(&mut self, token: usize, turn: Turn, link: Box<Link<'d>, Global>) {
         if let Turn::Parks {
             number,
             milliseconds,
@@ -213,7 +213,7 @@ impl<'d, const LATEST: u8> Worker<'d, LATEST> {
     }
 
     /// Ends a connection as it is, at its next turn.
-    pub(crate) fn cut(&mut self, token: usize, link: Box<Link<'d, LATEST>, Global>) {
+    pub(crate) fn cut(&mut self, token: usize, link: Box<Link<'d>, Global>) {
         let mut link = link;
         link.pipe.cut(Ended::Memory);
         self.put_listed(token, link);
@@ -224,7 +224,7 @@ impl<'d, const LATEST: u8> Worker<'d, LATEST> {
     pub(crate) fn park(
         &mut self,
         token: usize,
-        link: Box<Link<'d, LATEST>, Global>,
+        link: Box<Link<'d>, Global>,
         number: u64,
         milliseconds: u32,
     ) {

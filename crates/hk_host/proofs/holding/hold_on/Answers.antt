@@ -1,4 +1,4 @@
-use Rattle.hk_host.proofs.WaitingChanges.{waiting_hold}
+use Rattle.hk_seats.proofs.WaitingChanges.{waiting_hold}
 use Rattle.hk_host.proofs.holding.hold_on.Goals as goal
 
 pub returns-in-Ok-learn-clause-held : goal.returns-in-Ok-learn-clause-held

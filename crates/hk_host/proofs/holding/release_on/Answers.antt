@@ -1,5 +1,5 @@
 use Rattle.hk_oplog.specs.declared.op.Op.TheVariants.{Release}
-use Rattle.hk_host.proofs.WaitingChanges.{handed_reply, waiting_reply}
+use Rattle.hk_seats.proofs.WaitingChanges.{handed_reply, waiting_reply}
 use Rattle.hk_host.proofs.holding.release_on.Goals as goal
 
 pub returns-in-Ok-learn-clause-released : goal.returns-in-Ok-learn-clause-released

@@ -1,5 +1,0 @@
-use Rattle.std.proofs.Common.{refl}
-use Rattle.hk_host.proofs.seat_host.SeatHost.no_kind.Goals as goal
-
-pub returns-clause-told : goal.returns-clause-told
-returns-clause-told g c = refl

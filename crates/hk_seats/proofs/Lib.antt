@@ -1,0 +1,5 @@
+mod JoinRequests
+mod Seen
+mod ChangeReplies
+pub mod WaitingChanges
+pub mod GoingOn
