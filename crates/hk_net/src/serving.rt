@@ -118,20 +118,6 @@ impl<'w, 'd, J: NodeName + 'w, N: Wait + Drop + 'w, R: Threads + Wait + Clock + 
         }
     }
 
-    /// The turn of a connection of a door.
-    fn turn(&mut self, door: &Door<'d, J, N>, moment: Moment, link: &mut Link<'d>) -> Turn {
-        let Some(seat) = self.seat.take() else {
-            return Turn::Over;
-        };
-        let seen = seat.seen();
-        let (turn, seat) = self.turn_on(door, moment, link, seat);
-        if seen < seat.seen() {
-            self.reactor.note_change(moment, link.door);
-        }
-        self.seat = Some(seat);
-        turn
-    }
-
     /// Leaves a connection for a worker that gives long answers, with what this worker's seat has seen. Where that can't be done it ends.
     fn hand_over(&mut self, token: usize, link: Box<Link<'d>, Global>) {
         let mut link = link;
@@ -168,9 +154,18 @@ impl<'w, 'd, J: NodeName + 'w, N: Wait + Drop + 'w, R: Threads + Wait + Clock + 
         if !self.reactor.begin_turn(token, link) {
             return Turn::Waits;
         }
+        let Some(seat) = self.seat.take() else {
+            return Turn::Over;
+        };
         let moment = self.reactor.moment(door.way.passes());
         self.reactor.teller.turn_to(link.place, door.tells_changes);
-        self.turn(door, moment, link)
+        let seen = seat.seen();
+        let (turn, seat) = self.turn_on(door, moment, link, seat);
+        if seen < seat.seen() {
+            self.reactor.note_change(moment, link.door);
+        }
+        self.seat = Some(seat);
+        turn
     }
 
     /// Gives the connection under a token its turn.
