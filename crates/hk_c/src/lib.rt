@@ -2,44 +2,23 @@
 #![tactic(auto)]
 
 ghost use Rattle.std.specs.Prelude.{◌≡◌, ◌++◌, true, None, Some, length, min, take, drop};
-ghost use Rattle.std.specs.Option.{option_copied};
-ghost use Rattle.hk_c.specs.Calls.{AbsorbedAt, AtLive, Bounded, Called, Counts, Finished, Got, Listed, MergedAt, Opened, PrunedAt, Ranged, Tagged, Told, Worded, Wrote, asks_rows, copied_into, kept_reply};
-ghost use Rattle.hk_c.specs.Pages.{Pages, TagPaged, WritesFound};
+ghost use Rattle.hk_handle.specs.Calls.{AbsorbedAt, AtLive, Bounded, Called, Counts, Finished, Got, Listed, MergedAt, Opened, PrunedAt, Ranged, Tagged, Worded, asks_rows, copied_into, kept_reply};
+ghost use Rattle.hk_handle.specs.Pages.{Pages, TagPaged};
 
-mod changes;
-mod found;
-mod handle;
-mod listing;
-mod loose;
-mod paging;
-mod replica;
 mod words;
 
-pub use found::{Bounds, Found, Paged};
-pub use handle::Handle;
-use hk_model::{Page, Query};
-use hk_state::front_of;
-use hk_types::{Key, Refusal, Row, Table, Tag};
-pub use replica::Replica;
+pub use hk_handle::{Bounds, Found, Handle, Paged, Replica};
+use hk_handle::{MEMORY, close, copy_prefix, put_back, take_out, write_page};
+use hk_model::Query;
+use hk_types::{Key, Table, Tag};
 use std::alloc::Global;
-use std::mem::replace;
 use words::line_of;
 
 /// What a call returns that got a closed handle.
 const CLOSED: u8 = 255;
 
-const MEMORY: u8 = 90;
-
 /// The version of all of Vadungsil, as C ends a text.
 const VERSION: &[u8] = b"0.1.0\0";
-
-/// Puts a replica in a handle, and frees what it held.
-fn put_back(alloc: Global, handle: &mut Handle, replica: Box<Replica>)
-    ensures { handle.new.replica ≡ Some replica.value }
-{
-    let before = replace(handle, Handle::of(replica));
-    drop(before.into_box(alloc));
-}
 
 /// Opens a replica of a log. What the handle held before is freed. Returns 0, or the number of the refusal: 5 or 90.
 #[unsafe(no_mangle)]
@@ -73,30 +52,17 @@ pub extern "C" fn hk_call(
     ensures written { written.new ≡ length (kept_reply handle.new.replica) }
     ensures copied { out.new ≡ copied_into out.old (kept_reply handle.new.replica) written.new }
 {
-    match replace(handle, Handle::none()).into_box(alloc) {
+    match take_out(alloc, handle) {
         None => {
             *written = 0;
             CLOSED
         }
         Some(mut replica) => {
-            let ended = replica.answer(alloc, requests);
-            let reply = replica.reply();
-            *written = reply.len();
-            let _copied = copy_prefix(reply, out);
+            let number = replica.call(alloc, requests, out, written);
             put_back(alloc, handle, replica);
-            ended.number()
+            number
         }
     }
-}
-
-/// Copies as many bytes as both have, and returns how many.
-fn copy_prefix(from: &[u8], to: &mut [u8]) -> usize
-    ensures count { result ≡ min (length from.now) (length to.old) }
-    ensures copied { to.new ≡ take result from.now ++ drop result to.old }
-{
-    let n = from.len().min(to.len());
-    to[..n].copy_from_slice(&from[..n]);
-    n
 }
 
 /// Copies the reply of the last call from a position on, as much as there is room, and returns how much.
@@ -106,12 +72,10 @@ pub extern "C" fn hk_reply(alloc: Global, handle: &mut Handle, from: usize, out:
     ensures count { result ≡ min (length (drop from (kept_reply handle.old.replica))) (length out.old) }
     ensures copied { out.new ≡ take result (drop from (kept_reply handle.old.replica)) ++ drop result out.old }
 {
-    match replace(handle, Handle::none()).into_box(alloc) {
+    match take_out(alloc, handle) {
         None => 0,
         Some(replica) => {
-            let reply = replica.reply();
-            let start = from.min(reply.len());
-            let copied = copy_prefix(&reply[start..], out);
+            let copied = replica.copy_reply(from, out);
             put_back(alloc, handle, replica);
             copied
         }
@@ -123,50 +87,7 @@ pub extern "C" fn hk_reply(alloc: Global, handle: &mut Handle, from: usize, out:
 pub extern "C" fn hk_close(alloc: Global, handle: &mut Handle)
     ensures { handle.new.replica ≡ None }
 {
-    let old = replace(handle, Handle::none());
-    drop(old.into_box(alloc));
-}
-
-/// Reports a row, and copies as much of its body as there is room.
-fn tell(row: Option<&Row>, found: &mut Found, out: &mut [u8])
-    ensures { Told (option_copied row.entry) found.new out.old out.new }
-{
-    match row {
-        None => *found = Found {
-            row: false,
-            tag: 0,
-            len: 0,
-        },
-        Some(row) => {
-            let body = row.body();
-            *found = Found {
-                row: true,
-                tag: row.tag().number(),
-                len: body.len(),
-            };
-            let _copied = copy_prefix(body, out);
-        }
-    }
-}
-
-/// Reports the row that a replica answers. Returns 0, or the number of the refusal.
-fn get_row(
-    replica: &Replica,
-    time: u64,
-    table: u16,
-    key: u64,
-    found: &mut Found,
-    out: &mut [u8],
-) -> u8
-    ensures { Got (Some replica.now) time table key found.new out.old out.new result }
-{
-    match replica.get(time, Table::new(table), Key::new(key)) {
-        Err(why) => why.number(),
-        Ok(row) => {
-            tell(row, found, out);
-            0
-        }
-    }
+    close(alloc, handle);
 }
 
 /// The row of a table at a key at a time: whether there is one, its tag and length, and as much of its body as there
@@ -184,10 +105,10 @@ pub extern "C" fn hk_get(
     ensures kept { handle.new.replica ≡ handle.old.replica }
     ensures got { Got handle.old.replica time table key found.new out.old out.new result }
 {
-    match replace(handle, Handle::none()).into_box(alloc) {
+    match take_out(alloc, handle) {
         None => CLOSED,
         Some(replica) => {
-            let number = get_row(&replica, time, table, key, found, out);
+            let number = replica.tell_row(time, table, key, found, out);
             put_back(alloc, handle, replica);
             number
         }
@@ -206,7 +127,7 @@ pub extern "C" fn hk_count(
     ensures kept { handle.new.replica ≡ handle.old.replica }
     ensures counted { Counts handle.old.replica time table count.new result }
 {
-    match replace(handle, Handle::none()).into_box(alloc) {
+    match take_out(alloc, handle) {
         None => CLOSED,
         Some(replica) => {
             let counted = replica.count(alloc, time, Table::new(table));
@@ -228,39 +149,11 @@ pub extern "C" fn hk_front(alloc: Global, handle: &mut Handle, bounds: &mut Boun
     ensures kept { handle.new.replica ≡ handle.old.replica }
     ensures front { Bounded handle.old.replica bounds.new result }
 {
-    match replace(handle, Handle::none()).into_box(alloc) {
+    match take_out(alloc, handle) {
         None => CLOSED,
         Some(replica) => {
-            let front = front_of(replica.host.state());
-            *bounds = Bounds {
-                horizon: front.horizon.number(),
-                readable: front.readable.number(),
-                ops: replica.host.ops(),
-            };
+            *bounds = replica.bounds();
             put_back(alloc, handle, replica);
-            0
-        }
-    }
-}
-
-/// Writes the rows that are kept, as much as there is room, and how many bytes they have.
-fn write_list(
-    listed: Result<(), Refusal>,
-    replica: &Replica,
-    out: &mut [u8],
-    needed: &mut usize,
-) -> u8
-    ensures { Wrote listed replica.now.reply needed.new out.old out.new result }
-{
-    match listed {
-        Err(why) => {
-            *needed = 0;
-            why.number()
-        }
-        Ok(()) => {
-            let text = replica.reply();
-            *needed = text.len();
-            let _copied = copy_prefix(text, out);
             0
         }
     }
@@ -279,11 +172,10 @@ fn list(
     requires { asks_rows query.now ≡ true }
     ensures { Listed handle.old.replica handle.new.replica time query.now low needed.new out.old out.new result }
 {
-    match replace(handle, Handle::none()).into_box(alloc) {
+    match take_out(alloc, handle) {
         None => CLOSED,
         Some(mut replica) => {
-            let listed = replica.list(alloc, time, query, low);
-            let number = write_list(listed, &replica, out, needed);
+            let number = replica.write_rows(alloc, time, query, low, out, needed);
             put_back(alloc, handle, replica);
             number
         }
@@ -332,32 +224,6 @@ pub extern "C" fn hk_by_tag(
     list(alloc, handle, time, &query, Key::new(low), out, needed)
 }
 
-/// Keeps the rows of a page that was found, writes as much of them as there is room, and reports what there is of it.
-/// 0, or the number of the refusal.
-fn write_page(
-    alloc: Global,
-    replica: &mut Replica,
-    found: Result<Page, Refusal>,
-    told: &mut Paged,
-    out: &mut [u8],
-) -> u8
-    ensures { WritesFound replica.old replica.new found told.new out.old out.new result }
-{
-    *told = Paged::nothing();
-    let page = match found {
-        Err(why) => return why.number(),
-        Ok(page) => page,
-    };
-    match replica.keep_page(alloc, &page) {
-        Err(_refused) => MEMORY,
-        Ok(kept) => {
-            *told = kept;
-            let _copied = copy_prefix(replica.reply(), out);
-            0
-        }
-    }
-}
-
 /// The first rows of a table from a low key to a high one, both inside, at a time: at most `most` of them, and no more
 /// than 268,435,449 bytes. They are written as those of `hk_range`, and `page` has whether others follow, how many
 /// rows there are, the key of the last, and how many bytes they have: the page after it has `low` above that key.
@@ -378,7 +244,7 @@ pub extern "C" fn hk_range_page(
     ensures { Pages handle.old.replica handle.new.replica time table low high most
         page.new out.old out.new result }
 {
-    match replace(handle, Handle::none()).into_box(alloc) {
+    match take_out(alloc, handle) {
         None => {
             *page = Paged::nothing();
             CLOSED
@@ -410,7 +276,7 @@ pub extern "C" fn hk_by_tag_page(
     ensures { TagPaged handle.old.replica handle.new.replica time table tag low most
         page.new out.old out.new result }
 {
-    match replace(handle, Handle::none()).into_box(alloc) {
+    match take_out(alloc, handle) {
         None => {
             *page = Paged::nothing();
             CLOSED
@@ -431,7 +297,7 @@ pub extern "C" fn hk_by_tag_page(
 pub extern "C" fn hk_absorb(alloc: Global, handle: &mut Handle, piece: &[u8]) -> u8
     ensures { AbsorbedAt handle.old.replica handle.new.replica piece.now result }
 {
-    match replace(handle, Handle::none()).into_box(alloc) {
+    match take_out(alloc, handle) {
         None => CLOSED,
         Some(mut replica) => {
             let number = replica.absorb(alloc, piece);
@@ -447,7 +313,7 @@ pub extern "C" fn hk_absorb(alloc: Global, handle: &mut Handle, piece: &[u8]) ->
 pub extern "C" fn hk_finish(alloc: Global, handle: &mut Handle) -> u8
     ensures { AtLive Finished handle.old.replica handle.new.replica result }
 {
-    match replace(handle, Handle::none()).into_box(alloc) {
+    match take_out(alloc, handle) {
         None => CLOSED,
         Some(mut replica) => {
             let number = replica.finish(alloc);
@@ -463,7 +329,7 @@ pub extern "C" fn hk_finish(alloc: Global, handle: &mut Handle) -> u8
 pub extern "C" fn hk_prune(alloc: Global, handle: &mut Handle, horizon: u64) -> u8
     ensures { PrunedAt handle.old.replica handle.new.replica horizon result }
 {
-    match replace(handle, Handle::none()).into_box(alloc) {
+    match take_out(alloc, handle) {
         None => CLOSED,
         Some(mut replica) => {
             let number = replica.prune(horizon);
@@ -479,10 +345,10 @@ pub extern "C" fn hk_merge(alloc: Global, handle: &mut Handle, peer: &mut Handle
     ensures peer { peer.new.replica ≡ peer.old.replica }
     ensures merged { MergedAt handle.old.replica handle.new.replica peer.old.replica result }
 {
-    let Some(other) = replace(peer, Handle::none()).into_box(alloc) else {
+    let Some(other) = take_out(alloc, peer) else {
         return CLOSED;
     };
-    let number = match replace(handle, Handle::none()).into_box(alloc) {
+    let number = match take_out(alloc, handle) {
         None => CLOSED,
         Some(mut replica) => {
             let number = replica.merge(&other);

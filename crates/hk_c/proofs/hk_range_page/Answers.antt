@@ -1,6 +1,6 @@
 use Rattle.std.proofs.Common.{rules}
-use Rattle.hk_c.specs.Pages.{ranged_page}
-use Rattle.hk_c.proofs.PagesWritten.{paged_at}
+use Rattle.hk_handle.specs.Pages.{ranged_page}
+use Rattle.hk_handle.proofs.PagesWritten.{paged_at}
 use Rattle.hk_c.proofs.hk_range_page.Goals as goal
 
 pub returns-in-Some : goal.returns-in-Some

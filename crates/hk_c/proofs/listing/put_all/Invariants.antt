@@ -1,6 +1,0 @@
-use Rattle.std.proofs.Common.{◌≡◌, ◌++◌, take}
-use Rattle.hk_c.specs.Pages.{page_text}
-use Rattle.hk_c.proofs.listing.put_all.Given as goal
-
-abbrev pub invariant-loop-key : goal.invariant-loop-key
-invariant-loop-key l = l.out.items ≡ l.fn.out.items ++ page_text (take l.key-index l.rows)

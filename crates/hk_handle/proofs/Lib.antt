@@ -1,0 +1,4 @@
+pub mod Values
+pub mod HandleValues
+mod LastKeys
+pub mod PagesWritten
