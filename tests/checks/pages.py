@@ -65,7 +65,7 @@ def sources():
 def listings():
     """What uses/README.md and docs/CONTRIBUTING.md list stands in a source."""
     texts = {"uses/README.md": [path.read_text() for path in sources()],
-             "docs/CONTRIBUTING.md": [path.read_text() for name in ("hk_oplog", "hk_node", "hk_types", "hk_host", "hk_link", "hk_seats", "hk_cli_arguments")
+             "docs/CONTRIBUTING.md": [path.read_text() for name in ("hk_oplog", "hk_node", "hk_types", "hk_host", "hk_link_state", "hk_seats", "hk_cli_arguments")
                                       for path in (ROOT / "crates" / name).glob("**/*") if path.suffix in (".rt", ".antt", ".edit")]}
     mine = of("pages.py listings")
     problems = [f"{it.page}: {it.text.splitlines()[0]}" for it in mine if not any(it.text.removesuffix("\n") in text for text in texts[it.page])]

@@ -7,9 +7,9 @@ use Rattle.hk_oplog.specs.declared.op.NodeKind.{NodeKind}
 use Rattle.hk_oplog.specs.declared.op.Op.{Op}
 use Rattle.hk_messages.specs.declared.request.Request.{Request}
 use Rattle.hk_messages.specs.declared.reply.Reply.{Reply}
-use Rattle.hk_link.specs.LaterReplying.{AreLetGo, MayReplyBoth}
-use Rattle.hk_link.specs.LinkStates.{LinkStateValue, LinkValue}
-use Rattle.hk_link.specs.NodeSides.{Sided}
+use Rattle.hk_link_state.specs.LaterReplying.{AreLetGo, MayReplyBoth}
+use Rattle.hk_link_state.specs.LinkStates.{LinkStateValue, LinkValue}
+use Rattle.hk_link_state.specs.NodeSides.{Sided}
 use Rattle.hk_seats.specs.Replying.{MayOnlyRead, MayReply}
 
 -- how the session ended, and the seat's list after it

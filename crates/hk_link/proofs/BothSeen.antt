@@ -6,10 +6,10 @@ use Rattle.hk_messages.specs.declared.reply.Reply.{Reply}
 use Rattle.hk_session_parts.specs.declared.ended.Ended.{Ended}
 use Rattle.hk_session_parts.specs.Transcript.{Answers, Ends, SessionStep}
 use Rattle.hk_oplog.specs.declared.op.Op.{Op}
-use Rattle.hk_link.specs.LaterReplying.{MayReplyBoth}
-use Rattle.hk_link.specs.LinkStates.{LinkValue}
-use Rattle.hk_link.specs.NodeSides.{Sided}
-use Rattle.hk_link.proofs.Seen.{same_prefix, then_prefix}
+use Rattle.hk_link_state.specs.LaterReplying.{MayReplyBoth}
+use Rattle.hk_link_state.specs.LinkStates.{LinkValue}
+use Rattle.hk_link_state.specs.NodeSides.{Sided}
+use Rattle.hk_link_state.proofs.Seen.{same_prefix, then_prefix}
 
 pub both_seen : {S : Type 0} (side : Sided S) (may : S → Request → Reply → S → Type 0) (old new : LinkValue S) (qs : List Request) (rs : List Reply)
     → Answers (MayReplyBoth side may) old qs rs new → IsPrefix (side.list old.inner) (side.list new.inner)

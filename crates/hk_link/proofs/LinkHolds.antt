@@ -1,13 +1,11 @@
 -- Holds of a link.
-use Rattle.std.proofs.Common.{◌≡◌, ℕ, ◌-◌, ◌<◌, ◌≤◌, set, List, [], ◌∷◌, ◌++◌, length, take, nat_lt, true, None, Err, inl, inr, refl, Option, Result, sym, ap, subst, ◌∙◌, length-append, arith}
+use Rattle.std.proofs.Common.{◌≡◌, ℕ, ◌-◌, List, [], ◌∷◌, ◌++◌, length, take, nat_lt, true, None, Err, inl, inr, refl, Option, Result, ap, subst, ◌∙◌, length-append, arith}
 use Rattle.std.proofs.Math.Seq.{take-append_seam}
-use Rattle.std.proofs.lemmas.Grind.{take-set_at}
-use Rattle.std.proofs.lemmas.List.{length-set, take_all}
 use Rattle.hk_types.specs.declared.faults.Refusal.{Refusal}
 use Rattle.hk_messages.specs.LaterReplies.{ReplyValue, Refused}
 use Rattle.hk_oplog.specs.declared.op.Hold.{Hold}
-use Rattle.hk_link.specs.LinkStates.{LinkValue}
-use Rattle.hk_link.specs.LaterReplying.{AsksHold, AsksHoldInPlace, IsHeld, most_holds}
+use Rattle.hk_link_state.specs.LinkStates.{LinkValue}
+use Rattle.hk_link_state.specs.LaterReplying.{AsksHold, AsksHoldInPlace, IsFull, IsHeld, LacksPlace, most_holds}
 
 -- all but the one that was put last
 all_but_last : (xs : List Hold) (x : Hold) → take (length (xs ++ x ∷ []) - 1) (xs ++ x ∷ []) ≡ xs
@@ -26,11 +24,8 @@ pub hold_unheld : {S : Type 0} (may_hold : S → ℕ → Result Hold (Option Hol
     → nat_lt (length l.holds) most_holds ≡ true → may_hold l.inner time (Err (None, why)) inner → IsHeld may_hold l time (Refused why) (record l { inner = inner })
 hold_unheld may_hold l inner time why room held = inr (room, inl (Err (None, why), held, refl, refl))
 
--- the last one is another
-pub last_set : (slice items : List Hold) (len count : ℕ) (hold : Hold) → slice ≡ items → length slice ≡ len → count ≡ length slice → 0 < len
-    → set items (count - 1) hold ≡ take (len - 1) items ++ hold ∷ []
-last_set slice items len count hold value sized counted some =
-    let l : length items ≡ len = ap length (sym value) ∙ sized in
-    let all : length (set items (len - 1) hold) ≤ len = let s = length-set items (len - 1) hold in omega (arith, s, l) in
-    ap (λ (k : ℕ). set items (k - 1) hold) (counted ∙ sized)
-    ∙ (sym (take_all len (set items (len - 1) hold) all) ∙ take-set_at items (len - 1) len hold (omega (arith, some)) (omega (arith, some, l)))
+-- there is no place for one more, of the link or of all links, and the node refuses it so
+pub hold_full : {S : Type 0} (may_hold : S → ℕ → Result Hold (Option Hold × Refusal) → S → Type 0) (l : LinkValue S) (time most : ℕ) (reply : ReplyValue) (new : LinkValue S)
+    → LacksPlace l.holds most → IsFull most may_hold l time reply new → IsHeld may_hold l time reply new
+hold_full may_hold l time most reply new (inl lacks) full = inl (lacks.0, subst (λ (m : ℕ). IsFull m may_hold l time reply new) lacks.1 full)
+hold_full may_hold l time most reply new (inr lacks) full = inr (lacks.0, inr (subst (λ (m : ℕ). IsFull m may_hold l time reply new) lacks.1 full))

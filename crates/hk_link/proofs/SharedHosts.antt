@@ -12,12 +12,12 @@ use Rattle.hk_session_parts.specs.declared.step.Step.{Step}
 use Rattle.hk_session_parts.specs.declared.step.Step.TheVariants as steps
 use Rattle.hk_session_parts.proofs.SessionStands.{continues_takes}
 use Rattle.hk_oplog.specs.declared.op.Op.{Op}
-use Rattle.hk_link.specs.LaterReplying.{MayReplyBoth}
-use Rattle.hk_link.specs.LinkStates.{LinkValue, link_of}
-use Rattle.hk_link.specs.NodeSides.{GoesOn, Sided}
+use Rattle.hk_link_state.specs.LaterReplying.{MayReplyBoth}
+use Rattle.hk_link_state.specs.LinkStates.{LinkValue, link_of}
+use Rattle.hk_link_state.specs.NodeSides.{GoesOn, Sided}
 use Rattle.hk_link.specs.Sharing.{AnswersAmong, EachAmong, Goes, GoesOnStanding, LinkGoesOn, MayAmong, MayMove, OnlyGrow, SeatGoesOn, SessionTurn, Share, alone, asked_by, link_list, told_to, with_own}
 use Rattle.hk_link.proofs.BothSeen.{both_seen}
-use Rattle.hk_link.proofs.Seen.{goes_seen, same_prefix, then_prefix}
+use Rattle.hk_link_state.proofs.Seen.{goes_seen, same_prefix, then_prefix}
 
 -- a host that goes on may stay as it is, and go on further, by itself or where it answers another session; its list begins with
 -- the one before, also where it answers

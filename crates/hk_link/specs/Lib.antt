@@ -1,6 +1,1 @@
-pub mod NodeNumbers
-pub mod NodeSides
-pub mod LinkStates
-pub mod LaterReplying
-pub mod GivenWhole
 pub mod Sharing

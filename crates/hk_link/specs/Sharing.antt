@@ -10,9 +10,9 @@ use Rattle.hk_session_parts.specs.Transcript.{Answers, May}
 use Rattle.hk_session_parts.specs.declared.step.Step.{Step}
 use Rattle.hk_oplog.specs.declared.op.Op.{Op}
 use Rattle.hk_oplog.specs.Replay.{is_legal, replay}
-use Rattle.hk_link.specs.LaterReplying.{KeepsOther}
-use Rattle.hk_link.specs.LinkStates.{LinkValue}
-use Rattle.hk_link.specs.NodeSides.{Sided}
+use Rattle.hk_link_state.specs.LaterReplying.{KeepsOther}
+use Rattle.hk_link_state.specs.LinkStates.{LinkValue}
+use Rattle.hk_link_state.specs.NodeSides.{Sided}
 
 -- what it means that a host goes on: from the first state it may come to the second by what others do
 abbrev pub Goes : Type 0 → Type 1

@@ -1,27 +1,21 @@
 //! A host that speaks both versions, over a host of a node for version 1.
 
-ghost use Rattle.std.specs.Prelude.{◌≡◌, ◌<◌, ◌==◌, ◌||◌, nat_le, true, length};
+ghost use Rattle.std.specs.Prelude.{◌≡◌, ◌<◌, true, length};
 ghost use mathlib.Core.List.{IsPrefix};
 ghost use Rattle.hk_fragment.specs.Heads.{of_facts};
 ghost use Rattle.hk_messages.specs.LaterReplies.{reply_seen};
 ghost use Rattle.hk_oplog.specs.Replay.{is_legal};
-ghost use Rattle.hk_link.specs.LaterReplying.{AreLetGo, AsksHoldInPlace, IsFirstReply, IsFull, IsHeld, IsLaterReply, IsOrMemory, IsReleased, JoinsMade, KeepsButCame, KeepsButGiving, KeepsCameAndHolds, KeepsOther, LetsGo, MayReplyBoth, RefusesCut, TellsCome, TellsLatest, TellsMore, TellsNumbers, TellsSizes, TellsTables, TellsWhole, change_seen, content_of, latest_reply, page_reply, ready_reply, streams_reply};
-ghost use Rattle.hk_link.specs.LinkStates.{fresh_state, link_of};
+ghost use Rattle.hk_link_state.specs.LaterReplying.{AreLetGo, AsksHoldInPlace, IsFirstReply, IsFull, IsHeld, IsLaterReply, IsOrMemory, IsReleased, JoinsMade, KeepsOther, LetsGo, MayReplyBoth, TellsLatest, TellsNumbers, TellsSizes, TellsTables, change_seen, content_of, latest_reply, page_reply, ready_reply, streams_reply};
+ghost use Rattle.hk_link_state.specs.LinkStates.{fresh_state, link_of};
 
-use crate::link_state::LinkState;
-use crate::node_side::NodeSide;
-use hk_budgets::MOST_PINS;
-use hk_log::Version;
+use hk_link_state::{LinkState, NodeSide, give, is_limited};
 use hk_model::{Front, Query};
 use hk_oplog::{Hold, NodeSizes};
 use hk_session::Host;
-use hk_types::{FormFault, Key, Refusal, Table, Time, VersionKey};
+use hk_types::{FormFault, Key, Refusal, Table, Time};
 use hk_values::FragmentHead;
 use hk_wire::{LaterReply, LaterRequest, Reply, Request, kind_of};
 use std::marker::Model;
-
-/// How many pins a connection has at most.
-const MOST_HOLDS: usize = 1_024;
 
 /// A host for both versions over one for version 1, with what the connection keeps: what it sends in chunks, the chunks that came,
 /// and its pins. Contracts see it as the state of a connection.
@@ -38,7 +32,7 @@ pub struct PartsHost<'a, H: NodeSide + Drop> {
 }
 
 impl<'a, H: NodeSide + Drop> Model for PartsHost<'a, H> {
-    ghost use Rattle.hk_link.specs.LinkStates.{LinkValue, link_code, link_of};
+    ghost use Rattle.hk_link_state.specs.LinkStates.{LinkValue, link_code, link_of};
     ghost use Rattle.hk_oplog.specs.contracts.op.Hold as hold;
 
     ghost Value = { LinkValue H };
@@ -60,13 +54,6 @@ fn later_reply(answer: Reply) -> LaterReply
             LaterReply::Refused(Refusal::Form(FormFault::BadKind))
         }
     }
-}
-
-/// Whether a delta since a time, or for the time 0 the full snapshot, is cut by a node with this oldest readable time.
-fn is_cut(base: Time, horizon: Time) -> bool
-    ensures { result ≡ ((base == 0) || nat_le horizon base) }
-{
-    base.number() == 0 || horizon <= base
 }
 
 /// Whether the answer to a query may have many rows.
@@ -224,7 +211,7 @@ impl<'a, H: NodeSide + Drop> PartsHost<'a, H> {
         ensures told { TellsLatest self.old.most (content_of H.side self.new) query.now (reply_seen result) }
         ensures ready { H.ready self.old.inner → H.ready self.new.inner }
     {
-        let is_limited = self.is_limited();
+        let is_limited = is_limited(&mut self.inner, &self.kept);
         match self.inner.marks() {
             Ok(_whole) if is_limited => LaterReply::Refused(self.kept.no_room()),
             _ => LaterReply::Refused(Refusal::Memory),
@@ -245,60 +232,6 @@ impl<'a, H: NodeSide + Drop> PartsHost<'a, H> {
         }
     }
 
-    /// Cuts what the node holds, and returns the first chunk of it.
-    fn whole(&mut self, base: Time, most: u32) -> LaterReply
-        ensures legal { is_legal (H.side.list self.new.inner) ≡ true }
-        ensures seen { IsPrefix (H.side.list self.old.inner) (H.side.list self.new.inner) }
-        ensures told { TellsWhole H.side self.old base most (reply_seen result) self.new }
-        ensures same { KeepsCameAndHolds self.old self.new }
-        ensures ready { H.ready self.old.inner → H.ready self.new.inner }
-    {
-        let left = self.kept.left_for_another();
-        self.keep_within(left);
-        match self.inner.cut(base) {
-            Ok(fragment) => self.kept.begin(fragment, most),
-            Err(Refusal::Memory) => {
-                self.kept.stop_giving();
-                self.refuse_cut(base)
-            }
-            Err(why) => {
-                self.kept.stop_giving();
-                LaterReply::Refused(why)
-            }
-        }
-    }
-
-    /// The refusal of what was not cut for want of memory: where that is for the budget's limit, so many bytes are the most.
-    fn refuse_cut(&mut self, base: Time) -> LaterReply
-        ensures seen { IsPrefix (H.side.list self.old.inner) (H.side.list self.new.inner) }
-        ensures legal { is_legal (H.side.list self.new.inner) ≡ true }
-        ensures told { RefusesCut self.old.most (content_of H.side self.new) base (reply_seen result) }
-        ensures same { KeepsOther self.old self.new }
-        ensures ready { H.ready self.old.inner → H.ready self.new.inner }
-    {
-        let is_limited = self.is_limited();
-        match self.inner.marks() {
-            Ok(front) if is_limited && is_cut(base, front.horizon) => {
-                LaterReply::Refused(self.kept.no_room())
-            }
-            _ => LaterReply::Refused(Refusal::Memory),
-        }
-    }
-
-    /// Whether the node holds more than the budget has left for this connection, so that a reply may be refused for that.
-    fn is_limited(&mut self) -> bool
-        ensures legal { is_legal (H.side.list self.new.inner) ≡ true }
-        ensures seen { IsPrefix (H.side.list self.old.inner) (H.side.list self.new.inner) }
-        ensures same { KeepsOther self.old self.new }
-        ensures ready { H.ready self.old.inner → H.ready self.new.inner }
-    {
-        let left = self.kept.left();
-        match self.inner.sizes() {
-            Ok(sizes) => sizes.weight > left,
-            Err(_no_memory) => false,
-        }
-    }
-
     /// Has the inner host join what the head and the chunks that came make.
     fn join(&mut self, head: FragmentHead) -> LaterReply
         requires ready { H.ready self.old.inner }
@@ -307,11 +240,10 @@ impl<'a, H: NodeSide + Drop> PartsHost<'a, H> {
         ensures same { LetsGo self.old self.new }
         ensures ready { H.ready self.new.inner }
     {
-        // The room is returned once they are joined.
-        let (came, _room) = self.kept.take_parts();
-        match head.into_fragment(came) {
-            Ok(fragment) => later_reply(self.answer_first(Request::JoinThis(fragment))),
-            Err(fault) => LaterReply::Refused(Refusal::Form(fault)),
+        match self.kept.take_fragment(head) {
+            // The room is returned once it is joined.
+            Ok((fragment, _room)) => later_reply(self.answer_first(Request::JoinThis(fragment))),
+            Err(told) => told,
         }
     }
 
@@ -333,13 +265,10 @@ impl<'a, H: NodeSide + Drop> PartsHost<'a, H> {
         ensures told { IsHeld H.side.may_hold self.old time (reply_seen result) self.new }
         ensures ready { H.ready self.old.inner → H.ready self.new.inner }
     {
-        if self.kept.hold_count() >= MOST_HOLDS {
-            return self.refuse_hold(time, MOST_HOLDS as u64);
-        }
-        match self.kept.make_place(time) {
-            Ok(true) => self.ask_hold(time),
-            Ok(false) => self.refuse_hold(time, MOST_PINS),
-            Err(_) => LaterReply::Refused(self.inner.hold_refusal(time)),
+        match self.kept.place_for(time) {
+            Ok(None) => self.ask_hold(time),
+            Ok(Some(most)) => self.refuse_hold(time, most),
+            Err(_no_memory) => LaterReply::Refused(self.inner.hold_refusal(time)),
         }
     }
 
@@ -427,8 +356,10 @@ impl<'a, H: NodeSide + Drop> PartsHost<'a, H> {
             LaterRequest::Await { .. } => self.ready(),
             LaterRequest::Stats => self.stats(),
             LaterRequest::Tables => self.tables(),
-            LaterRequest::Whole { base, most_bytes } => self.whole(base, most_bytes),
-            LaterRequest::More => self.kept.more(),
+            LaterRequest::Whole { base, most_bytes } => {
+                give(&mut self.inner, &mut self.kept, Some((base, most_bytes)))
+            }
+            LaterRequest::More => give(&mut self.inner, &mut self.kept, None),
             LaterRequest::AddPart(facts) => self.kept.add(facts),
             LaterRequest::JoinParts(head) | LaterRequest::MergeParts(head) => self.join(head),
             LaterRequest::Hold { t } => self.hold(t),
@@ -450,7 +381,7 @@ impl<'a, H: NodeSide + Drop> PartsHost<'a, H> {
 }
 
 impl<'a, H: NodeSide + Drop> Host for PartsHost<'a, H> {
-    ghost use Rattle.hk_link.specs.LaterReplying.{MayReplyBoth};
+    ghost use Rattle.hk_link_state.specs.LaterReplying.{MayReplyBoth};
 
     ghost may = { MayReplyBoth H.side H.may };
 

@@ -1,10 +1,10 @@
 //! What sessions have that share a host of a node.
 
-ghost use Rattle.hk_link.specs.LaterReplying.{MayReplyBoth};
-ghost use Rattle.hk_link.specs.LinkStates.{link_of};
+ghost use Rattle.hk_link_state.specs.LaterReplying.{MayReplyBoth};
+ghost use Rattle.hk_link_state.specs.LinkStates.{link_of};
 ghost use Rattle.hk_link.specs.Sharing.{LinkGoesOn, MarksLaw, SeatGoesOn, Share, alone, link_list};
 
-use crate::node_side::NodeSide;
+use hk_link_state::NodeSide;
 
 /// Sessions that share hosts of a node, and whose requests are answered by turns, have each what a session has that has its
 /// host alone, but that the host may go on before each request, so that its list begins with the one before:

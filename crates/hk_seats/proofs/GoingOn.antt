@@ -2,7 +2,7 @@
 use Rattle.std.proofs.Common.{ℕ, ◌≡◌, ◌≤◌, inl, inr, Bool, true, false, true≢false, refl, sym, ap, subst, ◌∙◌, List, length, take, Some, Result, Ok, Err, MatchBool, IfOk, arith, length-append}
 use Rattle.std.proofs.Math.Seq.{take-append-le}
 use mathlib.Core.List.{IsPrefix}
-use Rattle.hk_link.proofs.Seen.{same_prefix, then_prefix}
+use Rattle.hk_link_state.proofs.Seen.{same_prefix, then_prefix}
 use Rattle.hk_types.specs.declared.faults.Refusal.{Refusal}
 use Rattle.hk_types.specs.declared.faults.Refusal.TheVariants.{Memory}
 use Rattle.hk_log.specs.declared.item.Item.{Item}

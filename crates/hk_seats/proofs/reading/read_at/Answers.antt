@@ -1,5 +1,5 @@
 use Rattle.std.proofs.Common.{refl}
-use Rattle.hk_link.proofs.Seen.{same_prefix}
+use Rattle.hk_link_state.proofs.Seen.{same_prefix}
 use Rattle.hk_seats.proofs.Seen.{no_reading_is}
 use Rattle.hk_seats.proofs.reading.read_at.Goals as goal
 

@@ -1,4 +1,4 @@
-use Rattle.hk_link.proofs.Seen.{goes_step}
+use Rattle.hk_link_state.proofs.Seen.{goes_step}
 use Rattle.hk_seats.proofs.sessions.serve_plain.Goals as goal
 
 pub returns-clause-seen : goal.returns-clause-seen

@@ -1,7 +1,7 @@
 use Rattle.std.proofs.Common.{ap, subst, ◌∙◌}
 use mathlib.Core.List.{IsPrefix}
-use Rattle.hk_link.specs.LinkStates.{LinkValue}
-use Rattle.hk_link.proofs.Seen.{then_prefix}
+use Rattle.hk_link_state.specs.LinkStates.{LinkValue}
+use Rattle.hk_link_state.proofs.Seen.{then_prefix}
 use Rattle.hk_link.proofs.parts_host.PartsHost.latest.Goals as goal
 
 pub returns-in-Err-Memory-clause-seen : goal.returns-in-Err-Memory-clause-seen

@@ -1,5 +1,0 @@
-use Rattle.hk_link.proofs.WholeGiven.{is_given_whole}
-use Rattle.hk_link.proofs.outgoing_transfer.given_law.Goals as goal
-
-pub returns : goal.returns
-returns c = λ most. is_given_whole c.args.fragment.now most c.fragment_law.ensures.facts

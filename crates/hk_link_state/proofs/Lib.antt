@@ -1,0 +1,4 @@
+mod WholeGiven
+mod LettingGo
+mod LastSet
+pub mod Seen
