@@ -1,7 +1,7 @@
 -- The lines of a node that serves links.
 use Rattle.std.specs.Prelude.{ℕ, List, ◌++◌, codes}
 use Rattle.std.specs.Fmt.{decimal}
-use Rattle.hk_cli_lines.specs.Lines.{line_end}
+use Rattle.hk_cli_fields.specs.Lines.{line_end}
 use Rattle.hk_cli.specs.declared.notice.Notice.{Notice}
 use Rattle.hk_cli.specs.declared.notice.Notice.TheVariants.{Listening, Feeding, Reading, Ended}
 

@@ -2,7 +2,7 @@
 use Rattle.std.specs.Prelude.{ℕ, List, ◌++◌, codes}
 use Rattle.std.specs.Fmt.{decimal}
 use Rattle.hk_model.specs.World.Events.{told_seen}
-use Rattle.hk_cli_lines.specs.Lines.{line_end, outcome_lines}
+use Rattle.hk_cli_fields.specs.Lines.{line_end, outcome_lines}
 use Rattle.hk_cli_commands.specs.declared.script.Reply.{Reply}
 use Rattle.hk_cli_commands.specs.declared.script.Reply.TheVariants.{Begun, Told}
 

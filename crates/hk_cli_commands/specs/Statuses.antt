@@ -7,7 +7,7 @@ use Rattle.hk_marks.specs.Told.{stream_told}
 use Rattle.hk_cli_calls.specs.declared.call.OutputForm.{OutputForm}
 use Rattle.hk_cli_calls.specs.declared.call.OutputForm.TheVariants.{Lines, Json, Bytes}
 use Rattle.hk_cli_json.specs.Statuses.{stream_line}
-use Rattle.hk_cli_lines.specs.Lines.{line_end}
+use Rattle.hk_cli_fields.specs.Lines.{line_end}
 use Rattle.hk_cli_commands.specs.declared.status.Standing.{Standing}
 use Rattle.hk_cli_commands.specs.declared.status.Standing.TheVariants.{Open, Holds, Retired}
 use Rattle.hk_cli_commands.specs.declared.status.StreamStatus.{StreamStatus}

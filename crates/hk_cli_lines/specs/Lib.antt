@@ -1,4 +1,0 @@
-pub mod Metrics
-pub mod LaterReplies
-pub mod Lines
-pub mod Replies

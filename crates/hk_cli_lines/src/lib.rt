@@ -3,8 +3,7 @@
 
 mod later_reply;
 mod line;
-mod metric;
 mod reply;
 
+pub use hk_cli_fields::metric_word;
 pub use line::{Printed, line_of};
-pub use metric::metric_word;

@@ -5,12 +5,12 @@ ghost use Rattle.std.specs.List.{flat_map};
 ghost use Rattle.std.specs.String.{string_bytes};
 ghost use Rattle.hk_model.specs.Replica.Answers.{answer_seen};
 ghost use Rattle.hk_model.specs.World.Events.{told_seen};
-ghost use Rattle.hk_cli_lines.specs.Lines as spec;
-ghost use Rattle.hk_cli_lines.specs.Lines.{front_line};
+ghost use Rattle.hk_cli_fields.specs.Lines as spec;
 
-use hk_codec::{EntryOutline, ItemOutline, outline_of};
-use hk_log::{Item, Mark};
-use hk_model::{Answer, Front, Told, Took};
+use hk_cli_fields::{put_emitted, put_entry, put_fields, put_front, put_mark};
+use hk_codec::{ItemOutline, outline_of};
+use hk_log::Item;
+use hk_model::{Answer, Told, Took};
 use hk_types::{Key, Refusal, Row};
 use std::alloc::{AllocError, Global};
 
@@ -100,26 +100,6 @@ impl Printed for Answer {
     }
 }
 
-fn put_fields(refusal: &Refusal, out: &mut String) -> Result<(), AllocError>
-    ensures { OnOk result (string_bytes out.new ≡ string_bytes out.old ++ spec.fields_of refusal.now) }
-{
-    match refusal {
-        Refusal::Gap { base, readable } => write!(out, " base {base} readable {readable}"),
-        Refusal::AheadOfMark { readable } => write!(out, " readable {readable}"),
-        Refusal::TooOld { horizon } => write!(out, " horizon {horizon}"),
-        Refusal::NotYet { readable } => write!(out, " readable {readable}"),
-        Refusal::WriteConflict { table, key, at } => {
-            write!(out, " table {table} key {key} at {at}")
-        }
-        Refusal::NoRow { table, key } => write!(out, " table {table} key {key}"),
-        Refusal::Retired { stream } => write!(out, " stream {stream}"),
-        Refusal::Held { reader, at } => write!(out, " reader {reader} at {at}"),
-        Refusal::Unpublished { ops } => write!(out, " ops {ops}"),
-        Refusal::LinkFull { most } => write!(out, " most {most}"),
-        _ => Ok(()),
-    }
-}
-
 impl Printed for Refusal {
     ghost text = { spec.refusal_line };
 
@@ -129,45 +109,6 @@ impl Printed for Refusal {
         put_fields(self, out)?;
         out.push('\n')
     }
-}
-
-fn put_entry_place(entry: &EntryOutline, out: &mut String) -> Result<(), AllocError>
-    ensures { OnOk result (string_bytes out.new ≡ string_bytes out.old ++ spec.entry_place entry.now) }
-{
-    let log = entry.log;
-    let stream = entry.stream;
-    let number = entry.number;
-    let time = entry.time;
-    write!(
-        out,
-        "commit log {log} stream {stream} number {number} time {time}"
-    )
-}
-
-fn put_entry_counts(entry: &EntryOutline, out: &mut String) -> Result<(), AllocError>
-    ensures { OnOk result (string_bytes out.new ≡ string_bytes out.old ++ spec.entry_counts entry.now) }
-{
-    let ends = entry.ends;
-    let rows = entry.rows;
-    writeln!(out, " ends {ends} rows {rows}")
-}
-
-#[tactic(auto, using(std::proofs::Common::append_assoc))]
-fn put_entry(entry: &EntryOutline, out: &mut String) -> Result<(), AllocError>
-    ensures { OnOk result (string_bytes out.new ≡ string_bytes out.old ++ spec.entry_line entry.now) }
-{
-    put_entry_place(entry, out)?;
-    put_entry_counts(entry, out)
-}
-
-fn put_mark(mark: &Mark, out: &mut String) -> Result<(), AllocError>
-    ensures { OnOk result (string_bytes out.new ≡ string_bytes out.old ++ spec.mark_line mark.now) }
-{
-    let log = mark.log();
-    let stream = mark.stream();
-    let n = mark.n();
-    let m = mark.m();
-    writeln!(out, "mark log {log} stream {stream} n {n} m {m}")
 }
 
 impl Printed for ItemOutline {
@@ -187,23 +128,6 @@ impl Printed for Item {
     fn put_lines(&self, alloc: Global, out: &mut String) -> Result<(), AllocError> {
         outline_of(self).put_lines(alloc, out)
     }
-}
-
-fn put_emitted(mark: &Mark, out: &mut String) -> Result<(), AllocError>
-    ensures { OnOk result (string_bytes out.new ≡ string_bytes out.old ++ spec.emitted_line mark.now) }
-{
-    let stream = mark.stream();
-    let n = mark.n();
-    let m = mark.m();
-    writeln!(out, "mark stream {stream} n {n} m {m}")
-}
-
-pub(crate) fn put_front(front: Front, out: &mut String) -> Result<(), AllocError>
-    ensures { OnOk result (string_bytes out.new ≡ string_bytes out.old ++ front_line front.horizon front.readable) }
-{
-    let horizon = front.horizon;
-    let readable = front.readable;
-    writeln!(out, "front horizon {horizon} readable {readable}")
 }
 
 impl Printed for Told {

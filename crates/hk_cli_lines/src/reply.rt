@@ -1,20 +1,12 @@
 //! The lines of replies.
 
-ghost use Rattle.std.specs.Prelude.{◌≡◌, ◌++◌, OnOk};
-ghost use Rattle.std.specs.String.{string_bytes};
 ghost use Rattle.hk_messages.specs.Replies.{reply_seen};
-ghost use Rattle.hk_cli_lines.specs.Replies as spec;
+ghost use Rattle.hk_cli_fields.specs.Replies as spec;
 
-use crate::line::{Printed, put_front};
-use hk_types::Time;
+use crate::line::Printed;
+use hk_cli_fields::{put_front, put_part};
 use hk_wire::Reply;
 use std::alloc::{AllocError, Global};
-
-fn put_part(base: Time, horizon: Time, facts: usize, out: &mut String) -> Result<(), AllocError>
-    ensures { OnOk result (string_bytes out.new ≡ string_bytes out.old ++ spec.part_line base horizon facts) }
-{
-    writeln!(out, "fragment base {base} horizon {horizon} facts {facts}")
-}
 
 impl Printed for Reply {
     ghost text = { λ reply. spec.reply_lines (reply_seen reply) };

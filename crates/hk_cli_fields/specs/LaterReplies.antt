@@ -9,8 +9,8 @@ use Rattle.hk_model.specs.declared.streams_told.StreamTold.{StreamTold}
 use Rattle.hk_fragment_bytes.specs.Parts.{WireHead}
 use Rattle.hk_messages.specs.LaterReplies.{ReplyValue}
 use Rattle.hk_messages.specs.LaterReplies.ReplyValue.{Done, Streams, Latest, Page, Part, LastPart, Added, Held, Refused, Fed, Ready, Stats, Tables}
-use Rattle.hk_cli_lines.specs.Metrics.{stats_lines, tables_lines}
-use Rattle.hk_cli_lines.specs.Lines.{line_end, field, keyed_line, answer_lines, refusal_line}
+use Rattle.hk_cli_fields.specs.Metrics.{stats_lines, tables_lines}
+use Rattle.hk_cli_fields.specs.Lines.{line_end, field, keyed_line, answer_lines, refusal_line}
 
 -- ---- streams
 

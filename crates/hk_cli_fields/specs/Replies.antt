@@ -4,8 +4,8 @@ use Rattle.std.specs.Fmt.{decimal}
 use Rattle.hk_fragment_bytes.specs.Fragments.{WireFragment}
 use Rattle.hk_messages.specs.Replies.{ReplyValue}
 use Rattle.hk_messages.specs.Replies.ReplyValue.{Done, Front, Fragment, Answer, Refused, Later}
-use Rattle.hk_cli_lines.specs.Lines.{line_end, answer_lines, refusal_line, front_line}
-use Rattle.hk_cli_lines.specs.LaterReplies as later
+use Rattle.hk_cli_fields.specs.Lines.{line_end, answer_lines, refusal_line, front_line}
+use Rattle.hk_cli_fields.specs.LaterReplies as later
 
 -- what is printed of a fragment: where it begins, its horizon, and of how many versions it tells
 abbrev pub part_line : ℕ → ℕ → ℕ → List ℕ

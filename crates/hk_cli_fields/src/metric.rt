@@ -2,7 +2,7 @@
 
 ghost use Rattle.std.specs.Prelude.{◌≡◌, ◌++◌, OnOk};
 ghost use Rattle.std.specs.String.{string_bytes};
-ghost use Rattle.hk_cli_lines.specs.Metrics as spec;
+ghost use Rattle.hk_cli_fields.specs.Metrics as spec;
 
 use hk_types::Table;
 use hk_values::{Metric, metric_names as names};
@@ -96,8 +96,10 @@ fn put_metric(metric: &Metric, out: &mut String) -> Result<(), AllocError>
     writeln!(out, " {value}")
 }
 
+/// Adds the lines of a node's numbers. The only error is out of memory; then nothing is promised
+/// of the text. Cost: O(n), n bytes of the lines.
 #[tactic(auto, using(std::proofs::Common::append_assoc))]
-pub(crate) fn put_stats(metrics: &[Metric], out: &mut String) -> Result<(), AllocError>
+pub fn put_stats(metrics: &[Metric], out: &mut String) -> Result<(), AllocError>
     ensures { OnOk result (string_bytes out.new ≡ string_bytes out.old ++ spec.stats_lines metrics.now) }
 {
     let count = metrics.len();
@@ -108,8 +110,10 @@ pub(crate) fn put_stats(metrics: &[Metric], out: &mut String) -> Result<(), Allo
     Ok(())
 }
 
+/// Adds the lines of a node's tables. The only error is out of memory; then nothing is promised
+/// of the text. Cost: O(n), n bytes of the lines.
 #[tactic(auto, using(std::proofs::Common::append_assoc))]
-pub(crate) fn put_tables(tables: &[Table], out: &mut String) -> Result<(), AllocError>
+pub fn put_tables(tables: &[Table], out: &mut String) -> Result<(), AllocError>
     ensures { OnOk result (string_bytes out.new ≡ string_bytes out.old ++ spec.tables_lines tables.now) }
 {
     let count = tables.len();

@@ -3,7 +3,7 @@ use Rattle.std.specs.Prelude.{ℕ, Bool, true, ◌||◌, not, ◌==◌, if◌the
 use Rattle.std.specs.List.{flat_map}
 use Rattle.std.specs.Fmt.{decimal}
 use Rattle.hk_answers.specs.declared.metrics.Metric.{Metric}
-use Rattle.hk_cli_lines.specs.Lines.{line_end}
+use Rattle.hk_cli_fields.specs.Lines.{line_end}
 
 -- ---- numbers
 

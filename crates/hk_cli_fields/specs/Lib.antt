@@ -1,0 +1,4 @@
+pub mod Metrics
+pub mod LaterReplies
+pub mod Lines
+pub mod Replies
