@@ -8,9 +8,9 @@ use Rattle.hk_types.specs.declared.version_key.VersionKey.{VersionKey}
 use Rattle.hk_model.specs.History.Rows.{version_key_cmp}
 use Rattle.hk_model.proofs.Replica.Maps.{version_key_total, version_key_same, get-retain}
 use Rattle.hk_facts.specs.declared.fact.Part.TheVariants.{Whole}
-use Rattle.hk_store.specs.Facts.{FactsValue, facts_without}
-use Rattle.hk_store.specs.Drops.{is_among, without_all}
-use Rattle.hk_store.proofs.ChangedChains.{same_facts}
+use Rattle.hk_chains.specs.Facts.{FactsValue, facts_without}
+use Rattle.hk_chains.specs.Drops.{is_among, without_all}
+use Rattle.hk_chains.proofs.ChangedChains.{same_facts}
 
 module _ {X : Type 0} (m : finmap.FinMap version_key_cmp X) where
   kept : (p : VersionKey → Bool) (q : VersionKey) → finmap.get (finmap.retain_keys m p) q ≡ cond (p q) (finmap.get m q) None

@@ -23,9 +23,9 @@ use Rattle.hk_model.proofs.Replica.Maps.{version_key_total, find-append}
 use Rattle.hk_model.proofs.Replica.Visible.{T_both, less}
 use Rattle.hk_facts.specs.declared.fact.Fact.{Fact}
 use Rattle.hk_facts.specs.declared.fact.Fact.TheVariants.{Row, End}
-use Rattle.hk_store.specs.Facts.{FactsValue, with_added, with_fact_at, conflicts_with_entry}
-use Rattle.hk_store.proofs.StoredFacts.{tied, key_tied}
-use Rattle.hk_store.proofs.ChangedChains.{get-added}
+use Rattle.hk_chains.specs.Facts.{FactsValue, with_added, with_fact_at, conflicts_with_entry}
+use Rattle.hk_chains.proofs.StoredFacts.{tied, key_tied}
+use Rattle.hk_chains.proofs.ChangedChains.{get-added}
 use Rattle.hk_store.proofs.RolledBack.{union_push}
 
 -- ---- what holds where a test passes, or fails

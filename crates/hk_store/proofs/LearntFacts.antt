@@ -28,17 +28,17 @@ use Rattle.hk_index.proofs.StoredKeys.{tied_versions}
 use Rattle.hk_facts.specs.Facts.{row_of, died_of, if_known}
 use Rattle.hk_facts.specs.declared.fact.Fact.TheVariants.{Row, End}
 use Rattle.hk_store.specs.Changes.{with_listed}
-use Rattle.hk_store.specs.Facts.{FactsValue, entry_if, known_at, with_added, with_fact_at}
-use Rattle.hk_store.specs.Drops.{is_among}
+use Rattle.hk_chains.specs.Facts.{FactsValue, entry_if, known_at, with_added, with_fact_at}
+use Rattle.hk_chains.specs.Drops.{is_among}
 use Rattle.hk_store.specs.Learning.{RefusesEnd, RefusesRow, RefusesVersion, RefusesTold, end_conflicts, row_conflicts, row_told, end_told, rows_told, ends_told, told_by, with_told, with_version_told}
-use Rattle.hk_store.specs.Reads.{with_facts}
-use Rattle.hk_store.specs.Versions.{AreVersions, value_conflicts_at}
-use Rattle.hk_store.proofs.ChangedChains.{same_facts}
+use Rattle.hk_chains.specs.Reads.{with_facts}
+use Rattle.hk_chains.specs.Versions.{AreVersions, value_conflicts_at}
+use Rattle.hk_chains.proofs.ChangedChains.{same_facts}
 use Rattle.hk_store.proofs.EntryPut.{any_found}
 use Rattle.hk_store.proofs.RolledBack.{union_none, union_push}
 use Rattle.hk_store.proofs.ListedVersions.{conflict_listed}
 use Rattle.hk_store.proofs.PickedVersions.{find_picked}
-use Rattle.hk_store.proofs.StoredFacts.{known_row, known_end, or_none, find_entry}
+use Rattle.hk_chains.proofs.StoredFacts.{known_row, known_end, or_none, find_entry}
 
 -- ---- lists that are put in
 

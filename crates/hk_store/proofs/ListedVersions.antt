@@ -18,14 +18,14 @@ use Rattle.hk_model.specs.Replica.Rules.{contents_conflict}
 use Rattle.hk_model.proofs.Replica.Maps.{version_key_total, version_key_same}
 use Rattle.hk_index.specs.Listed.{Lists}
 use Rattle.hk_index.proofs.StoredKeys.{any-filter}
-use Rattle.hk_store.specs.Facts.{FactsValue, known_at}
-use Rattle.hk_store.specs.Indexed.{has_fact}
-use Rattle.hk_store.specs.Drops.{is_among}
-use Rattle.hk_store.specs.Reads.{with_facts}
-use Rattle.hk_store.specs.Versions.{AreVersions, AreVersionsOf, conflict_at, value_conflicts_at}
+use Rattle.hk_chains.specs.Facts.{FactsValue, known_at}
+use Rattle.hk_chains.specs.Indexed.{has_fact}
+use Rattle.hk_chains.specs.Drops.{is_among}
+use Rattle.hk_chains.specs.Reads.{with_facts}
+use Rattle.hk_chains.specs.Versions.{AreVersions, AreVersionsOf, conflict_at, value_conflicts_at}
 use Rattle.hk_facts.specs.Facts.{row_of, died_of}
-use Rattle.hk_store.proofs.StoredFacts.{known_row, known_end}
-use Rattle.hk_store.proofs.Indexed.{known_fact}
+use Rattle.hk_chains.proofs.StoredFacts.{known_row, known_end}
+use Rattle.hk_chains.proofs.Indexed.{known_fact}
 use Rattle.hk_store.proofs.Conflicts.{maps_conflict_wide}
 
 module _ (f : FactsValue) where

@@ -11,10 +11,10 @@ use Rattle.hk_model.specs.History.Rows.{version_key_cmp}
 use Rattle.hk_model.specs.Replica.Maps.{or_else}
 use Rattle.hk_model.proofs.Replica.Maps.{find-append}
 use Rattle.hk_index.proofs.StoredKeys.{tied_versions}
-use Rattle.hk_store.specs.Facts.{FactsValue, known_at, entry_if}
-use Rattle.hk_store.specs.Drops.{is_among}
-use Rattle.hk_store.specs.Versions.{AreVersions, AreVersionsOf}
-use Rattle.hk_store.proofs.StoredFacts.{find_entry}
+use Rattle.hk_chains.specs.Facts.{FactsValue, known_at, entry_if}
+use Rattle.hk_chains.specs.Drops.{is_among}
+use Rattle.hk_chains.specs.Versions.{AreVersions, AreVersionsOf}
+use Rattle.hk_chains.proofs.StoredFacts.{find_entry}
 use Rattle.hk_store.proofs.ListedVersions.{IsKnown}
 
 module _ (f : FactsValue) where

@@ -11,11 +11,11 @@ use Rattle.hk_types.specs.declared.version_key.VersionKey.{VersionKey}
 use Rattle.hk_model.specs.History.Rows.{version_key_cmp}
 use Rattle.hk_model.specs.Replica.Maps.{or_else, union}
 use Rattle.hk_model.proofs.Replica.Maps.{version_key_total, version_key_same, get-retain, get-union}
-use Rattle.hk_store.specs.Facts.{FactsValue}
-use Rattle.hk_store.specs.Drops.{is_among, without_all}
+use Rattle.hk_chains.specs.Facts.{FactsValue}
+use Rattle.hk_chains.specs.Drops.{is_among, without_all}
 use Rattle.hk_store.specs.Changes.{with_listed, facts_after_replace, meets}
-use Rattle.hk_store.proofs.StoredFacts.{key_tied}
-use Rattle.hk_store.proofs.ChangedChains.{same_facts, tied_is}
+use Rattle.hk_chains.proofs.StoredFacts.{key_tied}
+use Rattle.hk_chains.proofs.ChangedChains.{same_facts, tied_is}
 
 module _ {X : Type 0} (drops : List VersionKey) where
   -- nothing is listed of a version that goes

@@ -1,10 +1,8 @@
 -- Facts that are added, and taken back.
 use Rattle.std.proofs.Common.{◌≡◌, refl, sym, ap, ◌∙◌, ℕ, Bool, true, false, cond, Option, Some, None, Result, Ok, Err, OnOk, OnErr, List, [], ◌∷◌, ◌++◌, map, ◌+◌, ◌<◌, take, length, get_or}
 use Rattle.std.proofs.lemmas.List.{take_more, map_push}
-use Rattle.std.specs.Option.{is_some}
 use Rattle.std.specs.FinMap as finmap
 use Rattle.std.specs.FinMap.{find}
-use Rattle.hk_types.specs.Values.{RowValue}
 use Rattle.hk_types.specs.declared.version_key.VersionKey.{VersionKey}
 use Rattle.hk_model.specs.History.Rows.{version_key_cmp}
 use Rattle.hk_model.specs.Replica.Maps.{or_else, union}
@@ -12,11 +10,11 @@ use Rattle.hk_model.proofs.Replica.Maps.{version_key_total, version_key_same, fi
 use Rattle.hk_facts.specs.declared.fact.Fact.{Fact}
 use Rattle.hk_facts.specs.declared.fact.Fact.TheVariants.{Row, End}
 use Rattle.hk_facts.specs.declared.fact.Part.{Part}
-use Rattle.hk_store.specs.Facts.{FactsValue, with_added, with_fact_at, facts_without}
-use Rattle.hk_store.specs.Indexed.{IsNew}
+use Rattle.hk_chains.specs.Facts.{FactsValue, with_added, with_fact_at, facts_without}
+use Rattle.hk_chains.specs.Indexed.{IsNew}
 use Rattle.hk_store.specs.Undos.{part_of, rolled_back}
-use Rattle.hk_store.proofs.StoredFacts.{tied, key_tied, or_none}
-use Rattle.hk_store.proofs.ChangedChains.{get-added, get-without, tied_is}
+use Rattle.hk_chains.proofs.StoredFacts.{tied, key_tied, or_none}
+use Rattle.hk_chains.proofs.ChangedChains.{get-added, get-without, tied_is}
 
 -- ---- one more that was added
 
@@ -56,13 +54,6 @@ module _ (f g : FactsValue) (v : VersionKey) (fact : Fact) (free : IsNew f v fac
     pub noted_or_back : (r : Result A E) → OnOk r (ks ≡ js ++ (v, part_of fact) ∷ []) → OnOk r (h ≡ g) → OnErr r (ks ≡ js) → OnErr r (h ≡ facts_without g v (part_of fact)) → rolled_back ks h ≡ rolled_back js f
     noted_or_back (Ok x) noted stays same back = ap (rolled_back ks) stays ∙ noted_back js ks noted
     noted_or_back (Err why) noted stays same back = λ i. rolled_back (same i) (taken_back h back i)
-
--- what is known already is not added again
-pub added_again : (f : FactsValue) (v : VersionKey) (row : RowValue) → is_some (finmap.get f.rows v) ≡ true → f ≡ with_fact_at f v (Row row)
-added_again f v row is = ap (λ b. record { rows = cond b f.rows (finmap.insert f.rows v row); ends = f.ends }) (sym is)
-
-pub ended_again : (f : FactsValue) (v : VersionKey) (died : ℕ) → is_some (finmap.get f.ends v) ≡ true → f ≡ with_fact_at f v (End died)
-ended_again f v died is = ap (λ b. record { rows = f.rows; ends = cond b f.ends (finmap.insert f.ends v died) }) (sym is)
 
 -- ---- many facts
 

@@ -1,38 +1,26 @@
 -- The rows by time follow the facts.
-use Rattle.std.proofs.Common.{◌≡◌, refl, sym, ap, ◌∙◌, ℕ, ◌≤◌, ◌<◌, ◌+◌, Bool, true, false, cond, not, Option, Some, None, nat_le, min, max, arith, option_map, subst, Result, Ok, Err}
+use Rattle.std.proofs.Common.{◌≡◌, refl, sym, ap, ◌∙◌, ℕ, ◌≤◌, ◌<◌, ◌+◌, Bool, true, false, cond, not, Option, Some, None, nat_le, min, max, arith}
 use Rattle.std.proofs.lemmas.Bool.Decides.{nat_tests}
-use Rattle.std.specs.Option.{IfSome}
-use Rattle.std.specs.Result.{OnOk}
 use Rattle.std.specs.FinMap as finmap
 use Rattle.std.specs.FinSet as set
 use Rattle.hk_types.specs.Values.{RowValue}
 use Rattle.hk_types.specs.declared.version_key.VersionKey.{VersionKey}
-use Rattle.hk_log.specs.Versions.{VersionValue}
 use Rattle.hk_model.specs.History.Rows.{row_key_of, version_key_cmp}
 use Rattle.hk_model.specs.Replica.Content.{at_most, ended_by}
 use Rattle.hk_model.specs.Replica.Maps.{or_else}
 use Rattle.hk_model.proofs.Replica.Maps.{version_key_total, version_key_same, get-retain}
 use Rattle.hk_index.specs.Tags.{TagKeysValue}
-use Rattle.hk_index.specs.Timed.{StillThere, has_row}
+use Rattle.hk_index.specs.Timed.{has_row}
 use Rattle.hk_index.proofs.TimedSets.{Times, now_there, still_there}
 use Rattle.hk_facts.specs.declared.fact.Fact.TheVariants.{Row, End}
 use Rattle.hk_facts.specs.declared.fact.Part.{Part}
 use Rattle.hk_facts.specs.declared.fact.Part.TheVariants.{Row as RowPart, End as EndPart, Whole}
-use Rattle.hk_store.specs.Facts.{FactsValue, no_facts, with_fact_at, facts_without}
-use Rattle.hk_store.specs.Drops.{pruned_facts}
-use Rattle.hk_store.specs.Indexed.{AllListed, AreStated}
-use Rattle.hk_store.specs.Stated.{IsStated}
-use Rattle.hk_store.proofs.Indexed.{fewer_listed}
-use Rattle.hk_store.proofs.StoredFacts.{tied}
-use Rattle.hk_store.proofs.ChangedChains.{get-added, get-without, tied_is}
-
--- what an addition of both leaves
-pub both_stated : {X E : Type 0} (v : VersionKey) (known : VersionValue) (index new : Times) (birth : Option ℕ) → birth ≡ option_map (λ _. v.born) known.row → IfSome birth (λ t. has_row index t (row_key_of v) ≡ true) → StillThere index new → (r : Result X E) → OnOk r (IfSome known.died (λ t. has_row new t (row_key_of v) ≡ true)) → OnOk r (IsStated v known new)
-both_stated v known index new birth is born still (Err why) dead = tt
-both_stated v known index new birth is born still (Ok x) dead = record {
-  born = λ row at. still v.born (row_key_of v) (subst (λ (o : Option ℕ). IfSome o (λ t. has_row index t (row_key_of v) ≡ true)) (is ∙ ap (option_map (λ _. v.born)) at) born);
-  dead = λ died at. subst (λ (o : Option ℕ). IfSome o (λ t. has_row new t (row_key_of v) ≡ true)) at dead;
-}
+use Rattle.hk_chains.specs.Facts.{FactsValue, no_facts, with_fact_at, facts_without}
+use Rattle.hk_chains.specs.Drops.{pruned_facts}
+use Rattle.hk_chains.specs.Indexed.{AllListed, AreStated}
+use Rattle.hk_chains.proofs.Indexed.{fewer_listed}
+use Rattle.hk_chains.proofs.StoredFacts.{tied}
+use Rattle.hk_chains.proofs.ChangedChains.{get-added, get-without, tied_is}
 
 -- ---- what is known of fewer
 

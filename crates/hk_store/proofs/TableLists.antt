@@ -10,12 +10,12 @@ use Rattle.std.proofs.lemmas.Map.Keys.{sorted_head}
 use Rattle.hk_types.specs.declared.version_key.VersionKey.{VersionKey}
 use Rattle.hk_log.specs.Versions.{VersionValue}
 use Rattle.hk_model.specs.History.Rows.{version_key_cmp}
-use Rattle.hk_store.specs.Drops.{is_among}
-use Rattle.hk_store.specs.Facts.{FactsValue, known_at}
-use Rattle.hk_store.specs.Indexed.{has_fact}
+use Rattle.hk_chains.specs.Drops.{is_among}
+use Rattle.hk_chains.specs.Facts.{FactsValue, known_at}
+use Rattle.hk_chains.specs.Indexed.{has_fact}
 use Rattle.hk_store.specs.TableLists.{AreTables, HasTable, NoneBetween}
-use Rattle.hk_store.specs.Versions.{AreVersionsOf}
-use Rattle.hk_store.proofs.Indexed.{known_fact}
+use Rattle.hk_chains.specs.Versions.{AreVersionsOf}
+use Rattle.hk_chains.proofs.Indexed.{known_fact}
 
 abbrev pub start_of : ℕ → VersionKey
 start_of table = record { table = table; key = 0; born = 0 }

@@ -7,8 +7,8 @@ use Rattle.hk_types.specs.declared.version_key.VersionKey.{VersionKey}
 use Rattle.hk_model.specs.History.Facts.{inserted_version}
 use Rattle.hk_model.specs.History.Rows.{version_key_cmp}
 use Rattle.hk_model.specs.Replica.Maps.{union}
-use Rattle.hk_store.specs.Facts.{FactsValue}
-use Rattle.hk_store.specs.Drops.{is_among, without_all}
+use Rattle.hk_chains.specs.Facts.{FactsValue}
+use Rattle.hk_chains.specs.Drops.{is_among, without_all}
 
 -- the facts with these rows, where none are known
 abbrev pub with_rows : FactsValue → finmap.FinMap version_key_cmp RowValue → FactsValue

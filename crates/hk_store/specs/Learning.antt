@@ -11,9 +11,9 @@ use Rattle.hk_model.specs.Replica.Content.{at_most, without_ended}
 use Rattle.hk_model.specs.Replica.Maps.{union, values_conflict}
 use Rattle.hk_model.specs.Replica.Rules.{contents_conflict}
 use Rattle.hk_store.specs.Changes.{with_listed}
-use Rattle.hk_store.specs.Facts.{FactsValue, entry_if}
-use Rattle.hk_store.specs.Reads.{with_facts}
-use Rattle.hk_store.specs.Versions.{AreVersions, value_conflicts_at}
+use Rattle.hk_chains.specs.Facts.{FactsValue, entry_if}
+use Rattle.hk_chains.specs.Reads.{with_facts}
+use Rattle.hk_chains.specs.Versions.{AreVersions, value_conflicts_at}
 use Rattle.hk_store.specs.declared.learn.LearnScope.{LearnScope}
 use Rattle.hk_store.specs.declared.learn.LearnSource.{LearnSource}
 use Rattle.hk_store.specs.declared.learn.LearnSource.TheVariants.{Listed, Held}

@@ -1,12 +1,9 @@
+pub use Rattle.hk_chains.specs.Facts
+pub use Rattle.hk_chains.specs.Reads
+pub use Rattle.hk_chains.specs.Drops
+pub use Rattle.hk_chains.specs.Versions
+pub use Rattle.hk_chains.specs.Indexed
 pub mod Changes
-pub mod Drops
-pub mod Facts
-pub mod Indexed
 pub mod Undos
 pub mod Learning
-pub mod Paging
-pub mod Reads
-pub mod Stated
-pub mod Sweeps
-pub mod Versions
 pub mod TableLists

@@ -4,8 +4,8 @@ use Rattle.std.specs.List.{AllByRecursion, list_any}
 use Rattle.std.specs.List.Sorted.{IsStrictlySortedBy}
 use Rattle.std.specs.Ordering.{nat_cmp}
 use Rattle.hk_types.specs.declared.version_key.VersionKey.{VersionKey}
-use Rattle.hk_store.specs.Facts.{FactsValue}
-use Rattle.hk_store.specs.Indexed.{has_fact}
+use Rattle.hk_chains.specs.Facts.{FactsValue}
+use Rattle.hk_chains.specs.Indexed.{has_fact}
 
 -- a row or an end of a version of the table is known
 abbrev pub HasTable : FactsValue → ℕ → Type 0

@@ -8,7 +8,7 @@ use Rattle.hk_facts.specs.declared.fact.Fact.{Fact}
 use Rattle.hk_facts.specs.declared.fact.Fact.TheVariants.{Row, End}
 use Rattle.hk_facts.specs.declared.fact.Part.{Part}
 use Rattle.hk_facts.specs.declared.fact.Part.TheVariants.{Row as RowPart, End as EndPart}
-use Rattle.hk_store.specs.Facts.{FactsValue, conflicts_at, facts_without}
+use Rattle.hk_chains.specs.Facts.{FactsValue, conflicts_at, facts_without}
 
 -- the facts without these parts, the last taken out first
 abbrev pub rolled_back : List (VersionKey × Part) → FactsValue → FactsValue

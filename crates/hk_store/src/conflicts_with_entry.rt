@@ -6,7 +6,7 @@ ghost use Rattle.std.specs.FinMap as finmap;
 ghost use Rattle.hk_types.specs.Values.{same_row};
 ghost use Rattle.hk_model.specs.Replica.Maps.{values_conflict};
 ghost use Rattle.hk_model.specs.History.Facts.{inserted_version};
-ghost use Rattle.hk_store.specs.Facts.{conflicts_at, conflicts_with_entry};
+ghost use Rattle.hk_chains.specs.Facts.{conflicts_at, conflicts_with_entry};
 ghost use Rattle.hk_store.specs.Undos.{ends_conflict, rows_conflict};
 
 use crate::facts::Facts;

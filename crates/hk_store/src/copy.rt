@@ -4,8 +4,8 @@ ghost use Rattle.std.specs.Prelude.{◌≡◌, IfOk, IfErr};
 ghost use Rattle.hk_types.specs.declared.faults.Refusal.TheVariants.{Memory};
 
 use crate::facts::Facts;
-use crate::tagged::keys_by_tag;
 use crate::undo::Undo;
+use hk_chains::keys_by_tag;
 use hk_types::Refusal;
 use std::alloc::Global;
 

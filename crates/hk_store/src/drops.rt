@@ -2,13 +2,10 @@
 
 ghost use Rattle.std.specs.Prelude.{◌≡◌, OnOk, OnErr, IfErr};
 ghost use Rattle.hk_types.specs.declared.faults.Refusal.TheVariants.{Memory};
-ghost use Rattle.hk_store.specs.Drops.{EndedAmong, pruned_facts, without_all};
+ghost use Rattle.hk_chains.specs.Drops.{pruned_facts, without_all};
 
-use crate::chains::Chains;
 use crate::facts::Facts;
-use crate::tally::Tally;
 use hk_facts::Part;
-use hk_index::RowKey;
 use hk_types::{Refusal, Time, VersionKey};
 
 /// The chains are swept where more than one in so many of the rows that are held is looked at.
@@ -36,7 +33,7 @@ impl Facts {
         let rows = self.stated.rows(self.allocator(), &self.ends_until(until))?;
         let held = self.tally;
         let many = rows.len() > self.chains.bound() / FEW;
-        drop_ended(&mut self.chains, &mut self.tally, &rows, until, many);
+        self.chains.drop_ended(&mut self.tally, &rows, until, many);
         self.note_ends_above(until);
         let gone = held.rows.saturating_sub(self.tally.rows);
         self.tags.note_gone(gone);
@@ -44,23 +41,5 @@ impl Facts {
         self.tidy_tags();
         self.tidy_stated();
         Ok(())
-    }
-}
-
-/// Drops the versions that ended by a time, of which these rows have all: in one pass over the chains, or row by row.
-fn drop_ended(
-    chains: &mut Chains,
-    tally: &mut Tally,
-    rows: &[RowKey],
-    until: Time,
-    in_one_pass: bool,
-)
-    requires { EndedAmong chains.old until rows.now }
-    ensures { chains.new ≡ pruned_facts chains.old until }
-{
-    if in_one_pass {
-        chains.sweep(tally, until);
-    } else {
-        chains.sweep_rows(tally, rows, until);
     }
 }

@@ -9,19 +9,14 @@ ghost use Rattle.hk_types.specs.declared.faults.Refusal.TheVariants.{Memory};
 ghost use Rattle.hk_types.specs.declared.version_key.VersionKey.{VersionKey};
 ghost use Rattle.hk_facts.specs.declared.fact.Fact.TheVariants.{Row as RowFact, End as EndFact};
 ghost use Rattle.hk_model.specs.Replica.Answers.{visible, rows_where};
-ghost use Rattle.hk_store.specs.Reads.{with_facts};
-ghost use Rattle.hk_store.specs.Facts.{IsChainAt, IsUnknown, no_facts, known_at, facts_put, facts_without};
+ghost use Rattle.hk_chains.specs.Reads.{with_facts};
+ghost use Rattle.hk_chains.specs.Facts.{IsChainAt, IsUnknown, no_facts, known_at, facts_put, facts_without};
 ghost use Rattle.hk_store.specs.Undos.{rolled_back};
 ghost use Rattle.hk_index.specs.Tags.{StillListed, is_listed};
-ghost use Rattle.hk_store.specs.Indexed.{AreTagged, AreKeyed, IsNew, RefusesNew, birth_of};
+ghost use Rattle.hk_chains.specs.Indexed.{AreTagged, AreKeyed, IsNew, RefusesNew, birth_of};
 
-use crate::chains::Chains;
-use crate::key_index::KeyIndex;
-use crate::stated::rows_by_time;
-use crate::tag_index::TagIndex;
-use crate::tagged::keys_by_tag;
-use crate::tally::Tally;
 use crate::undo::Undo;
+use hk_chains::{Chains, KeyIndex, TagIndex, Tally, keys_by_tag, rows_by_time};
 use hk_facts::{Chain, Fact, Part};
 use hk_index::{RowKey, TagKeys, TimedRows};
 use hk_types::{Key, Refusal, Row, Table, Tag, Time, VersionKey};
@@ -61,8 +56,8 @@ impl Drop for Facts {
 }
 
 impl Model for Facts {
-    ghost use Rattle.hk_store.specs.Facts.{FactsValue, facts_code};
-    ghost use Rattle.hk_store.specs.Indexed.{AreIndexed};
+    ghost use Rattle.hk_chains.specs.Facts.{FactsValue, facts_code};
+    ghost use Rattle.hk_chains.specs.Indexed.{AreIndexed};
 
     ghost Value = { FactsValue };
 

@@ -6,7 +6,7 @@ ghost use Rattle.hk_store.specs.Undos.{rolled_back};
 ghost use Rattle.hk_store.specs.Learning.{IsTold, Learns, LearnsEnd, LearnsRow, LearnsVersion};
 ghost use Rattle.hk_store.specs.Learning.{RefusesEnd, RefusesRow, RefusesTold, RefusesVersion};
 ghost use Rattle.hk_store.specs.Learning.{end_conflicts, facts_conflict, facts_told, row_conflicts, told_by};
-ghost use Rattle.hk_store.specs.Versions.{AreVersions, value_conflicts_at};
+ghost use Rattle.hk_chains.specs.Versions.{AreVersions, value_conflicts_at};
 
 use crate::facts::Facts;
 use crate::undo::Undo;

@@ -7,7 +7,7 @@ ghost use Rattle.std.specs.FinSet as set;
 ghost use Rattle.hk_types.specs.declared.faults.Refusal.TheVariants.{Memory};
 ghost use Rattle.hk_model.specs.Replica.Maps.{union};
 ghost use Rattle.hk_store.specs.Changes.{with_listed, facts_after_replace, meets, with_rows, with_ends};
-ghost use Rattle.hk_store.specs.Facts.{FactsValue};
+ghost use Rattle.hk_chains.specs.Facts.{FactsValue};
 ghost use Rattle.hk_store.specs.Undos.{rolled_back};
 
 use crate::facts::Facts;

@@ -1,13 +1,15 @@
-//! The rows that show at a time.
+//! The rows that show at a time, all or page by page.
 
 ghost use Rattle.std.specs.Prelude.{◌≡◌, ◌==◌, ◌&&◌, nat_le, IfOk, IfErr};
 ghost use Rattle.std.specs.Option.{option_copied};
 ghost use Rattle.std.specs.FinMap as finmap;
 ghost use Rattle.hk_types.specs.declared.faults.Refusal.TheVariants.{Memory};
 ghost use Rattle.hk_model.specs.Replica.Answers.{visible, rows_where};
-ghost use Rattle.hk_store.specs.Reads.{with_facts, rows_ranged};
+ghost use Rattle.hk_model.specs.Replica.Pages.{page_of, page_seen};
+ghost use Rattle.hk_chains.specs.Reads.{with_facts, rows_ranged};
 
 use crate::facts::Facts;
+use hk_model::Page;
 use hk_types::{Key, Refusal, Row, Table, Time};
 use std::alloc::Global;
 
@@ -40,5 +42,28 @@ impl Facts {
     {
         let rows = self.chains.rows_between(alloc, table, low, high, time)?;
         Ok(rows)
+    }
+
+    /// The first page of the rows of a table with keys from `low` to `high`, both inside, that show at a time, by
+    /// rising key: copies of at most `most` of them, of at most `room` bytes with 14 for each row beside its body, but
+    /// of the first one whatever its size; and whether more follow. Where `low` is above `high` there are none. The only
+    /// refusal is `Memory`. Cost: O(log n + k · log n + b), n facts, k keys of which anything is known from low up to
+    /// the first row that is left out, b bytes of the bodies that are copied.
+    pub fn page(
+        &self,
+        alloc: Global,
+        table: Table,
+        low: Key,
+        high: Key,
+        time: Time,
+        most: u32,
+        room: u64,
+    ) -> Result<Page, Refusal>
+        ensures ok { IfOk result (λ page. page_seen page
+            ≡ page_of most room (rows_ranged self.now time table low high)) }
+        ensures err { IfErr result (λ why. why ≡ Memory) }
+    {
+        let page = self.chains.page(alloc, table, low, high, time, most, room)?;
+        Ok(page)
     }
 }

@@ -1,36 +1,14 @@
 //! How many bytes an answer would take, before anything of it is made.
 
 use crate::facts::Facts;
-use hk_index::RowKey;
-use hk_types::{Key, Refusal, Row, Table, Tag, Time};
+use hk_chains::{BESIDE_ROW, answer_bytes, row_bytes};
+use hk_types::{Key, Refusal, Table, Tag, Time};
 use std::alloc::Global;
-
-/// How many bytes a row has in a message beside its body, at most.
-const BESIDE_ROW: u64 = 14;
 
 /// How many bytes a version counts beside its row and its end: 19 of a message, and 128 for its place in memory; and how many its end.
 const BESIDE_VERSION: u64 = 147;
 
 const END: u64 = 8;
-
-/// How many bytes a row of an answer counts for its place in memory.
-const PLACE: u64 = 64;
-
-/// How many bytes a row has in a message, at most.
-fn row_bytes(row: Option<&Row>) -> u64 {
-    match row {
-        Some(row) => BESIDE_ROW.saturating_add(row.body().len() as u64),
-        None => 0,
-    }
-}
-
-/// How many bytes a row takes in an answer, at most: none where there is no row.
-fn answer_bytes(row: Option<&Row>) -> u64 {
-    match row_bytes(row) {
-        0 => 0,
-        bytes => bytes.saturating_add(PLACE),
-    }
-}
 
 impl Facts {
     /// How many bytes all that is held takes as a fragment: those of a message, and 128 more for each row and end, at most. It
@@ -61,15 +39,7 @@ impl Facts {
     /// How many bytes the rows of a table with keys from `low` to `high` that are visible at a time take in an answer, at most. It promises
     /// nothing. Cost: O(log n + k · log n), k keys from low to high, n facts.
     pub fn bytes_between(&self, table: Table, low: Key, high: Key, time: Time) -> u64 {
-        if high < low {
-            return 0;
-        }
-        let (first, last) = (RowKey::new(table, low), RowKey::new(table, high));
-        let mut bytes = 0u64;
-        for (_row, chain) in self.chains.chains.range(first..=last) {
-            bytes = bytes.saturating_add(answer_bytes(chain.at(time)));
-        }
-        bytes
+        self.chains.bytes_between(table, low, high, time)
     }
 
     /// How many bytes the rows of a table with a tag that are visible at a time take in an answer, at most. It promises nothing. The only

@@ -1,51 +1,26 @@
 //! Versions by the times of their rows and ends.
 
-ghost use Rattle.std.specs.Prelude.{◌≡◌, ◌∷◌, [], if◌then◌else◌, map, ℕ, nat_le, nat_lt, IfOk, IfErr, OnOk};
+ghost use Rattle.std.specs.Prelude.{◌≡◌, map, ℕ, nat_le, nat_lt, IfOk, IfErr};
 ghost use Rattle.std.specs.FinSet as set;
 ghost use Rattle.std.specs.List.{IsDistinct};
-ghost use Rattle.std.specs.List.Sorted.{IsNonDecreasingBy, IsStrictlySortedBy};
+ghost use Rattle.std.specs.List.Sorted.{IsNonDecreasingBy};
 ghost use Rattle.std.specs.Ordering.{eq_by_cmp};
 ghost use Rattle.hk_types.specs.declared.faults.Refusal.TheVariants.{Memory};
 ghost use Rattle.hk_types.specs.declared.version_key.VersionKey.{VersionKey};
-ghost use Rattle.hk_model.specs.History.Rows.{row_key_cmp, version_key_cmp};
+ghost use Rattle.hk_model.specs.History.Rows.{version_key_cmp};
 ghost use Rattle.hk_model.specs.Replica.Content.{ended_by};
-ghost use Rattle.hk_index.specs.Timed.{StillThere, is_in_span};
-ghost use Rattle.hk_store.specs.Drops.{is_among};
-ghost use Rattle.hk_store.specs.Indexed.{AreStated, died_at, is_stated, passes_at};
-ghost use Rattle.hk_store.specs.Stated.{IsStated, found_in, is_sought, sought_among, sought_at};
-ghost use Rattle.hk_store.specs.Versions.{AddsVersions, AreVersionsOf, borrowed};
+ghost use Rattle.hk_index.specs.Timed.{is_in_span};
+ghost use Rattle.hk_chains.specs.Drops.{is_among};
+ghost use Rattle.hk_chains.specs.Indexed.{died_at, is_stated, passes_at};
+ghost use Rattle.hk_chains.specs.Stated.{sought_at};
+ghost use Rattle.hk_chains.specs.Versions.{AreVersionsOf, borrowed};
 
-use crate::chains::Chains;
 use crate::facts::Facts;
-use crate::versions::push_borrowed;
-use crate::walk::next_of;
-use hk_facts::Chain;
-use hk_index::{RowKey, Span, TimedRows, VersionSet};
+use hk_chains::{Sought, sought_of};
+use hk_index::{Span, VersionSet};
 use hk_log::Version;
 use hk_types::{Refusal, Time, VersionKey};
 use std::alloc::{AllocError, Global};
-
-/// What is looked for: ends in a span of time, and births in it too or not.
-#[derive(Clone, Copy)]
-struct Sought {
-    span: Span,
-    births: bool,
-}
-
-impl Sought {
-    /// Whether a version, which was born then, is.
-    fn has(&self, born: Time, known: &Version) -> bool
-        ensures { result ≡ is_sought self.now born known.now }
-    {
-        if self.births && known.row().is_some() && self.span.has(born.number()) {
-            return true;
-        }
-        match known.died() {
-            Some(died) => self.span.has(died.number()),
-            None => false,
-        }
-    }
-}
 
 impl Facts {
     /// The span from the first end that is known up to a time.
@@ -137,59 +112,6 @@ fn above(base: Time) -> Span
     }
 }
 
-/// The versions of some rows that are looked for, with what is known of them.
-fn sought_of<'a>(
-    alloc: Global,
-    chains: &'a Chains,
-    rows: &[RowKey],
-    sought: &Sought,
-) -> Result<Vec<(VersionKey, &'a Version)>, AllocError>
-    requires { IsStrictlySortedBy row_key_cmp rows.now }
-    ensures { IfOk result (λ found. AreVersionsOf chains.now (sought_among chains.now sought.now rows.now) (map borrowed found.items)) }
-{
-    let mut found = Vec::new(alloc);
-    for row in rows {
-        if let Some(chain) = chains.chain(row.table, row.key) {
-            push_sought(&mut found, row, chain, sought)?;
-        }
-    }
-    Ok(found)
-}
-
-/// Adds the versions of a row that are looked for.
-fn push_sought<'a>(
-    found: &mut Vec<(VersionKey, &'a Version)>,
-    row: &RowKey,
-    chain: &'a Chain,
-    sought: &Sought,
-) -> Result<(), AllocError>
-    ensures { OnOk result (AddsVersions found.old.items found.new.items (found_in row.now sought.now chain.now)) }
-{
-    let mut after = None;
-    while let Some((version, known)) = next_of(row, chain, after) {
-        push_if(found, &version, known, sought.has(version.born, known))?;
-        after = Some(version.born);
-    }
-    Ok(())
-}
-
-/// Adds a version, or not.
-#[inline(always)]
-fn push_if<'a>(
-    found: &mut Vec<(VersionKey, &'a Version)>,
-    version: &VersionKey,
-    known: &'a Version,
-    is_sought: bool,
-) -> Result<(), AllocError>
-    ensures { OnOk result (AddsVersions found.old.items found.new.items
-        (if is_sought then (version.now, known.now) ∷ [] else [])) }
-{
-    if is_sought {
-        push_borrowed(found, *version, known)?;
-    }
-    Ok(())
-}
-
 /// The versions of a list, without what is known of them.
 fn names(alloc: Global, found: &[(VersionKey, &Version)]) -> Result<Vec<VersionKey>, AllocError>
     ensures { IfOk result (λ versions. versions.items ≡ map (λ e. e.0) found.now) }
@@ -198,27 +120,4 @@ fn names(alloc: Global, found: &[(VersionKey, &Version)]) -> Result<Vec<VersionK
         .iter()
         .map(|(version, _known)| *version)
         .collect(alloc)
-}
-
-/// The rows by the times at which anything is stated of them.
-pub(crate) fn rows_by_time(alloc: Global, chains: &Chains) -> Result<TimedRows, Refusal>
-    ensures ok { IfOk result (λ stated. AreStated chains.now stated) }
-    ensures err { IfErr result (λ why. why ≡ Memory) }
-{
-    let mut stated = TimedRows::new(alloc);
-    for (version, known) in chains.walk() {
-        state(&mut stated, &version, known)?;
-    }
-    Ok(stated)
-}
-
-/// Adds the row of a version with the times at which it was born and ended.
-fn state(stated: &mut TimedRows, version: &VersionKey, known: &Version) -> Result<(), Refusal>
-    ensures ok { OnOk result (IsStated version.now known.now stated.new) }
-    ensures kept { StillThere stated.old stated.new }
-    ensures err { IfErr result (λ why. why ≡ Memory) }
-{
-    let row = RowKey::of_version(version);
-    stated.add_if(known.row().map(|_row| version.born), row)?;
-    stated.add_if(known.died(), row)
 }

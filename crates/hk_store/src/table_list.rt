@@ -2,7 +2,7 @@
 
 ghost use Rattle.std.specs.Prelude.{◌≡◌, ◌++◌, ◌∷◌, [], ◌≤◌, ◌<◌, true, OnOk, IfOk, IfSome, IfNone};
 ghost use Rattle.hk_types.specs.declared.version_key.VersionKey.{VersionKey};
-ghost use Rattle.hk_store.specs.Indexed.{has_fact};
+ghost use Rattle.hk_chains.specs.Indexed.{has_fact};
 ghost use Rattle.hk_store.specs.TableLists.{AreTables, HasTable, NoneBetween};
 
 use crate::facts::Facts;

@@ -4,28 +4,12 @@ ghost use Rattle.std.specs.Prelude.{◌≡◌, ◌==◌, ◌&&◌, ◌++◌, IfO
 ghost use Rattle.std.specs.Option.{option_copied};
 ghost use Rattle.hk_types.specs.declared.faults.Refusal.TheVariants.{Memory};
 ghost use Rattle.hk_model.specs.Replica.Answers.{visible, rows_where};
-ghost use Rattle.hk_store.specs.Indexed.{AllListed, rows_of_keys, tagged_row};
-ghost use Rattle.hk_store.specs.Reads.{keyed_if, with_facts, rows_with_tag};
+ghost use Rattle.hk_chains.specs.Indexed.{rows_of_keys, tagged_row};
+ghost use Rattle.hk_chains.specs.Reads.{keyed_if, with_facts, rows_with_tag};
 
-use crate::chains::Chains;
 use crate::facts::Facts;
-use hk_index::TagKeys;
 use hk_types::{Key, Refusal, Row, Table, Tag, Time};
 use std::alloc::{AllocError, Global};
-
-/// The keys of all versions whose row is known, by tag.
-pub(crate) fn keys_by_tag(alloc: Global, chains: &Chains) -> Result<TagKeys, Refusal>
-    ensures ok { IfOk result (λ keys. AllListed chains.now keys) }
-    ensures err { IfErr result (λ why. why ≡ Memory) }
-{
-    let mut keys = TagKeys::new(alloc);
-    for (version, known) in chains.walk() {
-        if let Some(row) = known.row() {
-            keys.add(version.table, row.tag(), version.key)?;
-        }
-    }
-    Ok(keys)
-}
 
 impl Facts {
     /// Copies of the rows of a table with a tag that are visible at a time, by rising key. The only refusal is `Memory`.

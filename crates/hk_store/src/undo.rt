@@ -1,7 +1,7 @@
 //! What was added to facts, so that it can be taken back.
 
 ghost use Rattle.std.specs.Prelude.{◌≡◌, ◌++◌, ◌∷◌, [], OnOk, OnErr};
-ghost use Rattle.hk_store.specs.Facts.{facts_without};
+ghost use Rattle.hk_chains.specs.Facts.{facts_without};
 ghost use Rattle.hk_store.specs.Undos.{rolled_back};
 
 use crate::facts::Facts;

@@ -1,34 +1,19 @@
 //! The versions of a state's facts, one by one.
 
-ghost use Rattle.std.specs.Prelude.{◌≡◌, ◌==◌, ◌||◌, ◌∷◌, [], IfOk, OnOk, map};
+ghost use Rattle.std.specs.Prelude.{◌≡◌, IfOk, map};
 ghost use Rattle.std.specs.Option.{option_copied};
 ghost use Rattle.std.specs.FinSet as set;
-ghost use Rattle.hk_types.specs.Values.{same_row};
-ghost use Rattle.hk_types.specs.declared.version_key.VersionKey.{VersionKey};
-ghost use Rattle.hk_model.specs.History.Rows.{version_key_cmp};
-ghost use Rattle.hk_model.specs.Replica.Maps.{values_conflict};
 ghost use Rattle.hk_model.specs.Replica.Rules.{contents_conflict};
-ghost use Rattle.hk_store.specs.Facts.{known_at};
-ghost use Rattle.hk_store.specs.Reads.{with_facts};
-ghost use Rattle.hk_store.specs.Versions.{AddsVersions, AreVersions, AreVersionsOf, borrowed, value_conflicts_at, versions_differ};
+ghost use Rattle.hk_chains.specs.Facts.{known_at};
+ghost use Rattle.hk_chains.specs.Reads.{with_facts};
+ghost use Rattle.hk_chains.specs.Versions.{AreVersions, AreVersionsOf, borrowed, value_conflicts_at};
 
-use crate::chains::Chains;
 use crate::facts::Facts;
-use crate::walk::Walk;
+use hk_chains::{Walk, differs, push_borrowed};
 use hk_index::VersionSet;
 use hk_log::Version;
 use hk_types::VersionKey;
 use std::alloc::{AllocError, Global};
-
-impl Chains {
-    /// All versions of which anything is known, in rising order. The only error is out of memory.
-    /// Cost: that of a walk over them.
-    pub fn versions(&self, alloc: Global) -> Result<Vec<(VersionKey, &Version)>, AllocError>
-        ensures { IfOk result (λ versions. AreVersions self.now (map borrowed versions.items)) }
-    {
-        self.walk().collect(alloc)
-    }
-}
 
 impl Facts {
     /// What is known of a version. Cost: O(log n), n facts.
@@ -96,44 +81,5 @@ impl Facts {
             }
         }
         false
-    }
-}
-
-/// Adds a version to a list, with what is borrowed of it. The only error is out of memory.
-pub fn push_borrowed<'a>(
-    found: &mut Vec<(VersionKey, &'a Version)>,
-    version: VersionKey,
-    known: &'a Version,
-) -> Result<(), AllocError>
-    ensures { OnOk result (AddsVersions found.old.items found.new.items ((version, known.now) ∷ [])) }
-{
-    match found.push((version, known)) {
-        Ok(()) => Ok(()),
-        Err(_refused) => Err(AllocError),
-    }
-}
-
-/// Whether two versions have different rows, or different ends.
-pub(crate) fn differs(own: &Version, other: &Version) -> bool
-    ensures { result ≡ versions_differ own.now other.now }
-{
-    rows_differ(own, other) || ends_differ(own, other)
-}
-
-fn rows_differ(own: &Version, other: &Version) -> bool
-    ensures { result ≡ values_conflict same_row own.now.row other.now.row }
-{
-    match (own.row(), other.row()) {
-        (Some(row), Some(another)) => *row != *another,
-        _ => false,
-    }
-}
-
-fn ends_differ(own: &Version, other: &Version) -> bool
-    ensures { result ≡ values_conflict (λ a b. a == b) own.now.died other.now.died }
-{
-    match (own.died(), other.died()) {
-        (Some(died), Some(another)) => died != another,
-        _ => false,
     }
 }

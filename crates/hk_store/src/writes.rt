@@ -7,7 +7,7 @@ ghost use Rattle.hk_types.specs.declared.faults.Refusal.TheVariants.{Conflict, M
 ghost use Rattle.hk_log.specs.Items.{rise, end_place, row_place};
 ghost use Rattle.hk_model.specs.Replica.Maps.{union};
 ghost use Rattle.hk_store.specs.Changes.{entry_ends, entry_rows, with_ends, with_listed, with_rows};
-ghost use Rattle.hk_store.specs.Facts.{with_fact_at, with_entry, conflicts_at, conflicts_with_entry};
+ghost use Rattle.hk_chains.specs.Facts.{with_fact_at, with_entry, conflicts_at, conflicts_with_entry};
 ghost use Rattle.hk_store.specs.Undos.{rows_conflict, ends_conflict, rolled_back};
 
 use crate::facts::Facts;

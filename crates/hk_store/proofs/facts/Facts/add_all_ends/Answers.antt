@@ -1,5 +1,5 @@
 use Rattle.std.proofs.Common.{refl, sym, ap, ◌∙◌, arith}
-use Rattle.hk_store.specs.Facts.{FactsValue}
+use Rattle.hk_chains.specs.Facts.{FactsValue}
 use Rattle.hk_store.proofs.RolledBack.{union_none, add_one}
 use Rattle.hk_store.proofs.facts.Facts.add_all_ends.Goals as goal
 

@@ -6,7 +6,7 @@ use Rattle.std.specs.FinMap as finmap
 use Rattle.hk_types.specs.Values.{RowValue}
 use Rattle.hk_types.specs.declared.version_key.VersionKey.{VersionKey}
 use Rattle.hk_model.specs.Replica.Maps.{union}
-use Rattle.hk_store.specs.Facts.{FactsValue, with_added}
+use Rattle.hk_chains.specs.Facts.{FactsValue, with_added}
 use Rattle.hk_store.proofs.RolledBack.{union_none, union_push}
 use Rattle.hk_store.proofs.facts.Facts.add_all_rows.Goals as goal
 

@@ -3,9 +3,9 @@ use Rattle.std.proofs.lemmas.List.Folds.{list_any-append}
 use Rattle.std.specs.List.{list_any}
 use Rattle.hk_types.specs.declared.version_key.VersionKey.{VersionKey}
 use Rattle.hk_log.specs.Versions.{VersionValue}
-use Rattle.hk_store.specs.Versions.{borrowed, value_conflicts_at}
+use Rattle.hk_chains.specs.Versions.{borrowed, value_conflicts_at}
 use Rattle.hk_store.proofs.ListedVersions.{conflict_listed}
-use Rattle.hk_store.proofs.WalkedChains.{all_taken, one_more_taken}
+use Rattle.hk_chains.proofs.WalkedChains.{all_taken, one_more_taken}
 use Rattle.hk_store.proofs.facts.Facts.conflicts_with.Goals as goal
 
 pub returns-then-value_conflicts_at : goal.returns-then-value_conflicts_at

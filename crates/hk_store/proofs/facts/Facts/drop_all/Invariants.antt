@@ -1,5 +1,5 @@
 use Rattle.std.proofs.Common.{◌≡◌, take}
-use Rattle.hk_store.specs.Drops.{without_all}
+use Rattle.hk_chains.specs.Drops.{without_all}
 use Rattle.hk_store.proofs.facts.Facts.drop_all.Given as goal
 
 abbrev pub invariant-loop-version : goal.invariant-loop-version

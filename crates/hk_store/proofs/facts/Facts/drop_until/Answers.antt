@@ -1,7 +1,7 @@
 use Rattle.std.proofs.Common.{ap, ◌∙◌, List}
 use Rattle.hk_model.specs.History.Rows.{RowKey, row_key_of}
 use Rattle.hk_index.specs.Timed.{is_among}
-use Rattle.hk_store.proofs.SoughtVersions.{ended_rows}
+use Rattle.hk_chains.proofs.SoughtVersions.{ended_rows}
 use Rattle.hk_store.proofs.StatedFacts.{fewer_later, fewer_stated, pruned_fewer, pruned_later, pruned_listed}
 use Rattle.hk_store.proofs.facts.Facts.drop_until.Goals as goal
 

@@ -6,8 +6,8 @@ use Rattle.std.specs.List.Sorted.{IsStrictlySortedBy}
 use Rattle.std.specs.Ordering.{eq_by_cmp}
 use Rattle.hk_model.specs.History.Rows.{version_key_cmp}
 use Rattle.hk_model.proofs.Replica.Maps.{version_key_total}
-use Rattle.hk_store.specs.declared.stated.Sought.{Sought}
-use Rattle.hk_store.proofs.SoughtVersions.{among_sought, ends_sought, names_borrowed}
+use Rattle.hk_chains.specs.declared.stated.Sought.{Sought}
+use Rattle.hk_chains.proofs.SoughtVersions.{among_sought, ends_sought, names_borrowed}
 use Rattle.hk_store.proofs.facts.Facts.ended.Goals as goal
 
 pub returns-clause-ok : goal.returns-clause-ok

@@ -1,4 +1,4 @@
-use Rattle.hk_store.proofs.Indexed.{part_listed}
+use Rattle.hk_chains.proofs.Indexed.{part_listed}
 use Rattle.hk_store.proofs.StatedFacts.{fewer_later, fewer_stated, part_fewer}
 use Rattle.hk_store.proofs.facts.Facts.forget.Goals as goal
 

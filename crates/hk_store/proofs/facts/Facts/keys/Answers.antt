@@ -1,6 +1,6 @@
 use Rattle.std.proofs.Common.{ap, ◌∙◌}
 use Rattle.std.specs.FinSet as set
-use Rattle.hk_store.proofs.WalkedRows.{keys_have}
+use Rattle.hk_chains.proofs.WalkedRows.{keys_have}
 use Rattle.hk_store.proofs.facts.Facts.keys.Goals as goal
 
 pub returns : goal.returns

@@ -1,6 +1,6 @@
 use Rattle.std.proofs.Common.{sym}
 use Rattle.hk_facts.specs.declared.fact.Fact.TheVariants.{End}
-use Rattle.hk_store.proofs.Indexed.{put_is}
+use Rattle.hk_chains.proofs.Indexed.{put_is}
 use Rattle.hk_store.proofs.LearntFacts.{no_end, end_above, end_below, end_comes_in, no_end_comes}
 use Rattle.hk_store.proofs.facts.Facts.learn_end.Goals as goal
 

@@ -2,10 +2,10 @@ use Rattle.std.proofs.Common.{refl, sym, ap, ◌∙◌, map}
 use Rattle.std.proofs.lemmas.List.{map_push}
 use Rattle.std.specs.List.{list_any}
 use Rattle.hk_store.specs.Learning.{RefusesTold}
-use Rattle.hk_store.specs.Versions.{borrowed, value_conflicts_at}
+use Rattle.hk_chains.specs.Versions.{borrowed, value_conflicts_at}
 use Rattle.hk_store.proofs.EntryPut.{any_one_more}
 use Rattle.hk_store.proofs.LearntFacts.{none_put, learnt, learnt_more, conflicts_as_before, all_learnt, none_conflict, refused_on, refused_told}
-use Rattle.hk_store.proofs.WalkedChains.{all_taken, one_more_taken}
+use Rattle.hk_chains.proofs.WalkedChains.{all_taken, one_more_taken}
 use Rattle.hk_store.proofs.facts.Facts.learn_held.Goals as goal
 
 pub loop-version-init : goal.loop-version-init

@@ -1,7 +1,7 @@
 use Rattle.std.proofs.Common.{◌≡◌, false, map}
 use Rattle.std.specs.List.{list_any}
 use Rattle.hk_store.specs.Undos.{rolled_back}
-use Rattle.hk_store.specs.Versions.{borrowed, value_conflicts_at}
+use Rattle.hk_chains.specs.Versions.{borrowed, value_conflicts_at}
 use Rattle.hk_store.proofs.LearntFacts.{learnt}
 use Rattle.hk_store.proofs.facts.Facts.learn_held.Given as goal
 

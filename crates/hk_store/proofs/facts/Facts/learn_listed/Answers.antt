@@ -2,7 +2,7 @@ use Rattle.std.proofs.Common.{refl, sym, ap, ◌∙◌, arith}
 use Rattle.std.proofs.lemmas.List.{take_all}
 use Rattle.std.specs.List.{list_any}
 use Rattle.hk_store.specs.Learning.{RefusesTold, told_by}
-use Rattle.hk_store.specs.Versions.{value_conflicts_at}
+use Rattle.hk_chains.specs.Versions.{value_conflicts_at}
 use Rattle.hk_store.proofs.EntryPut.{any_one_more, walked, walked_more}
 use Rattle.hk_store.proofs.LearntFacts.{none_put, learnt, learnt_more, conflicts_as_before, all_learnt, none_conflict, refused_on, refused_told}
 use Rattle.hk_store.proofs.facts.Facts.learn_listed.Goals as goal

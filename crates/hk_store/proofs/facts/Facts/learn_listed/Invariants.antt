@@ -1,7 +1,7 @@
 use Rattle.std.proofs.Common.{◌≡◌, false, take}
 use Rattle.std.specs.List.{list_any}
 use Rattle.hk_store.specs.Undos.{rolled_back}
-use Rattle.hk_store.specs.Versions.{value_conflicts_at}
+use Rattle.hk_chains.specs.Versions.{value_conflicts_at}
 use Rattle.hk_store.proofs.LearntFacts.{learnt}
 use Rattle.hk_store.proofs.facts.Facts.learn_listed.Given as goal
 

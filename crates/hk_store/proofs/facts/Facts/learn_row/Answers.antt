@@ -1,6 +1,6 @@
 use Rattle.std.proofs.Common.{sym, ap, ◌∙◌, ◌||◌, cond, nat_lt, None}
 use Rattle.hk_facts.specs.declared.fact.Fact.TheVariants.{Row}
-use Rattle.hk_store.proofs.Indexed.{put_is}
+use Rattle.hk_chains.proofs.Indexed.{put_is}
 use Rattle.hk_store.proofs.LearntFacts.{never, row_comes_in, no_row_comes}
 use Rattle.hk_store.proofs.facts.Facts.learn_row.Goals as goal
 

@@ -1,6 +1,6 @@
 use Rattle.std.proofs.lemmas.Result.{on_ok_weaker}
 use Rattle.hk_facts.proofs.StoredTrees.{IfErr_map}
-use Rattle.hk_store.specs.Facts.{entry_if}
+use Rattle.hk_chains.specs.Facts.{entry_if}
 use Rattle.hk_store.specs.Learning.{row_told, end_told}
 use Rattle.hk_store.proofs.LearntFacts.{both_agree, both_put, end_refused}
 use Rattle.hk_store.proofs.facts.Facts.learn_version.Goals as goal

@@ -1,4 +1,4 @@
-use Rattle.hk_store.proofs.Indexed.{none_tagged}
+use Rattle.hk_chains.proofs.Indexed.{none_tagged}
 use Rattle.hk_store.proofs.StatedFacts.{none_later, none_stated}
 use Rattle.hk_store.proofs.facts.Facts.new.Goals as goal
 

@@ -2,7 +2,7 @@ use Rattle.std.proofs.Common.{ap}
 use Rattle.std.proofs.lemmas.Bool.{OnTrue_at}
 use Rattle.hk_facts.specs.declared.fact.Fact.TheVariants.{End}
 use Rattle.hk_store.specs.Undos.{rolled_back}
-use Rattle.hk_store.proofs.Indexed.{put_is}
+use Rattle.hk_chains.proofs.Indexed.{put_is}
 use Rattle.hk_store.proofs.RolledBack.{taken_back, kept_unless_noted, noted_or_back}
 use Rattle.hk_store.proofs.StatedFacts.{end_later, end_stated}
 use Rattle.hk_store.proofs.facts.Facts.put_end.Goals as goal

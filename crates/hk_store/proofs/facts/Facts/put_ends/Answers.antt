@@ -4,7 +4,7 @@ use Rattle.std.specs.FinMap as finmap
 use Rattle.hk_types.specs.declared.version_key.VersionKey.{VersionKey}
 use Rattle.hk_model.specs.Replica.Maps.{union, values_conflict}
 use Rattle.hk_facts.specs.declared.fact.Fact.TheVariants.{End}
-use Rattle.hk_store.specs.Facts.{conflicts_at}
+use Rattle.hk_chains.specs.Facts.{conflicts_at}
 use Rattle.hk_store.specs.Undos.{ends_conflict}
 use Rattle.hk_store.proofs.RolledBack.{union_none}
 use Rattle.hk_store.proofs.EntryConflicts.{ends_sorted}

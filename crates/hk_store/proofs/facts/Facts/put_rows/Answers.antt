@@ -6,7 +6,7 @@ use Rattle.hk_types.specs.Values.{RowValue, same_row}
 use Rattle.hk_model.specs.Replica.Maps.{values_conflict}
 use Rattle.hk_model.specs.History.Facts.{inserted_version}
 use Rattle.hk_facts.specs.declared.fact.Fact.TheVariants.{Row}
-use Rattle.hk_store.specs.Facts.{conflicts_at}
+use Rattle.hk_chains.specs.Facts.{conflicts_at}
 use Rattle.hk_store.proofs.RolledBack.{union_none}
 use Rattle.hk_store.proofs.EntryConflicts.{rows_sorted}
 use Rattle.hk_store.proofs.EntryPut.{walked, any_one_more, any_found, outside_at, outside_more, all_put, lasted, row_put, rows_kept, ends_stay, passed_on}

@@ -2,7 +2,7 @@ use Rattle.std.proofs.Common.{sym, ap, ◌∙◌, ◌==◌, ◌∷◌, [], true,
 use Rattle.hk_log.specs.declared.item.Item.TheVariants.{Commit}
 use Rattle.hk_model.specs.History.Facts.{ends_of}
 use Rattle.hk_model.specs.Replica.Maps.{maps_conflict}
-use Rattle.hk_store.specs.Facts.{conflicts_with_entry}
+use Rattle.hk_chains.specs.Facts.{conflicts_with_entry}
 use Rattle.hk_store.proofs.EntryConflicts.{row_conflict, end_conflict}
 use Rattle.hk_store.proofs.EntryPut.{refused_so, a_conflict, no_memory, agree_both, rows_differ, ends_differ}
 use Rattle.hk_store.proofs.facts.Facts.put_writes.Goals as goal

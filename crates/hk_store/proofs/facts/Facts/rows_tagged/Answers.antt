@@ -1,9 +1,9 @@
 use Rattle.std.proofs.Common.{◌∙◌, ap, subst}
 use Rattle.hk_model.specs.Replica.Answers.{visible}
-use Rattle.hk_store.specs.Facts.{FactsValue}
-use Rattle.hk_store.specs.Indexed.{AllListed, rows_of_keys}
-use Rattle.hk_store.specs.Reads.{with_facts}
-use Rattle.hk_store.proofs.TaggedRows.{tagged_answer}
+use Rattle.hk_chains.specs.Facts.{FactsValue}
+use Rattle.hk_chains.specs.Indexed.{AllListed, rows_of_keys}
+use Rattle.hk_chains.specs.Reads.{with_facts}
+use Rattle.hk_chains.proofs.TaggedRows.{tagged_answer}
 use Rattle.hk_store.proofs.facts.Facts.rows_tagged.Goals as goal
 
 pub returns-clause-ok : goal.returns-clause-ok

@@ -1,5 +1,5 @@
-use Rattle.hk_store.specs.Reads.{with_facts}
-use Rattle.hk_store.proofs.ChainsAtTime.{row_found, row_missed}
+use Rattle.hk_chains.specs.Reads.{with_facts}
+use Rattle.hk_chains.proofs.ChainsAtTime.{row_found, row_missed}
 use Rattle.hk_store.proofs.facts.Facts.shown_at.Goals as goal
 
 pub returns-in-Some : goal.returns-in-Some

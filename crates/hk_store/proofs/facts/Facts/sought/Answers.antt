@@ -1,9 +1,9 @@
 use Rattle.std.proofs.Common.{map, subst, List}
 use Rattle.hk_model.specs.History.Rows.{RowKey}
-use Rattle.hk_store.specs.Facts.{FactsValue}
-use Rattle.hk_store.specs.Stated.{sought_among, sought_at}
-use Rattle.hk_store.specs.Versions.{AreVersionsOf, borrowed}
-use Rattle.hk_store.proofs.SoughtVersions.{all_sought}
+use Rattle.hk_chains.specs.Facts.{FactsValue}
+use Rattle.hk_chains.specs.Stated.{sought_among, sought_at}
+use Rattle.hk_chains.specs.Versions.{AreVersionsOf, borrowed}
+use Rattle.hk_chains.proofs.SoughtVersions.{all_sought}
 use Rattle.hk_store.proofs.facts.Facts.sought.Goals as goal
 
 pub sought_of-requires : goal.sought_of-requires

@@ -3,9 +3,9 @@ use Rattle.std.specs.FinSet as set
 use Rattle.hk_types.specs.declared.version_key.VersionKey.{VersionKey}
 use Rattle.hk_model.proofs.Replica.Maps.{version_key_total}
 use Rattle.hk_index.specs.Timed.{is_in_span}
-use Rattle.hk_store.specs.declared.stated.Sought.{Sought}
-use Rattle.hk_store.specs.Drops.{is_among}
-use Rattle.hk_store.proofs.SoughtVersions.{among_sought, from_zero, in_set, stated_alike, stated_sought}
+use Rattle.hk_chains.specs.declared.stated.Sought.{Sought}
+use Rattle.hk_chains.specs.Drops.{is_among}
+use Rattle.hk_chains.proofs.SoughtVersions.{among_sought, from_zero, in_set, stated_alike, stated_sought}
 use Rattle.hk_store.proofs.facts.Facts.stated_until.Goals as goal
 
 pub returns-clause-ok : goal.returns-clause-ok

@@ -1,6 +1,6 @@
 use Rattle.std.proofs.Common.{subst, is_le}
 use Rattle.hk_model.specs.History.Rows.{version_key_cmp}
-use Rattle.hk_store.specs.Versions.{AreVersionsOf, borrowed}
+use Rattle.hk_chains.specs.Versions.{AreVersionsOf, borrowed}
 use Rattle.hk_store.proofs.TableLists.{from_table, not_below, none_between}
 use Rattle.hk_store.proofs.facts.Facts.table_from.Goals as goal
 

@@ -6,7 +6,7 @@ use Rattle.std.specs.Borrow.{Bor}
 use Rattle.std.specs.Map.Iter.{deref}
 use Rattle.hk_types.specs.declared.version_key.VersionKey.{VersionKey}
 use Rattle.hk_log.specs.Versions.{VersionValue}
-use Rattle.hk_store.specs.Versions.{borrowed}
+use Rattle.hk_chains.specs.Versions.{borrowed}
 use Rattle.hk_store.proofs.ListedVersions.{IsKnown, knows, known_more, kept_more, kept_none, walked}
 use Rattle.hk_store.proofs.facts.Facts.versions_of.Goals as goal
 

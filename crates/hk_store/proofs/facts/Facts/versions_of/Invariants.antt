@@ -1,8 +1,8 @@
 use Rattle.std.proofs.Common.{◌≡◌, map, filter, All, Some}
 use Rattle.std.specs.Option.{is_some}
 use Rattle.std.specs.Map.Iter.{deref}
-use Rattle.hk_store.specs.Facts.{known_at}
-use Rattle.hk_store.specs.Versions.{borrowed}
+use Rattle.hk_chains.specs.Facts.{known_at}
+use Rattle.hk_chains.specs.Versions.{borrowed}
 use Rattle.hk_store.proofs.facts.Facts.versions_of.Given as goal
 
 abbrev pub invariant-loop-version : goal.invariant-loop-version

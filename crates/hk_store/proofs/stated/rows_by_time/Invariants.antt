@@ -1,7 +1,0 @@
-use Rattle.std.proofs.Common.{map}
-use Rattle.hk_store.specs.Versions.{borrowed}
-use Rattle.hk_store.proofs.SoughtVersions.{AreRowsStated}
-use Rattle.hk_store.proofs.stated.rows_by_time.Given as goal
-
-abbrev pub invariant-loop-version : goal.invariant-loop-version
-invariant-loop-version l = AreRowsStated l.stated (map borrowed l.yielded)

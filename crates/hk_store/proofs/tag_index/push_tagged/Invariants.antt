@@ -1,6 +1,0 @@
-use Rattle.std.proofs.Common.{◌≡◌, ◌++◌, filter, take}
-use Rattle.hk_store.specs.Indexed.{has_tag}
-use Rattle.hk_store.proofs.tag_index.push_tagged.Given as goal
-
-abbrev pub invariant-loop-version : goal.invariant-loop-version
-invariant-loop-version l = l.found.items ≡ l.fn.found.items ++ filter (has_tag l.chains l.tag) (take l.version-index l.versions)
