@@ -1,13 +1,18 @@
 -- What loops over the lists of an entry know.
-use Rattle.std.proofs.Common.{◌≡◌, ◌≢◌, ℕ, zero, suc, ◌-◌, ◌≤◌, ◌<◌, List, [], ◌∷◌, ◌++◌, All, length, take, drop, get_or, Option, Some, None, refl, sym, ap, subst, ◌∙◌, append_assoc, append-nil, arith}
-use Rattle.std.specs.List.{flat_map, slice_get}
+use Rattle.std.proofs.Common.{◌≡◌, ◌≢◌, ℕ, zero, suc, ◌-◌, ◌≤◌, ◌<◌, true, false, eqb, ltb, ◌&&◌, List, [], ◌∷◌, ◌++◌, All, length, map, take, drop, get_or, Option, Some, None, refl, sym, ap, subst, ◌∙◌, append_assoc, append-nil, arith, inl, inr}
+use Rattle.std.specs.Int.{w16}
+use Rattle.std.specs.List.{flat_map, slice_get, AllByRecursion}
+use Rattle.std.proofs.lemmas.Bool.{ltb-true, eqb-true}
 use Rattle.std.proofs.lemmas.List.{take-append-drop, length-take, length-drop}
 use Rattle.std.proofs.lemmas.List.Concat.{flat_map-cons}
 use Rattle.std.proofs.lemmas.List.Elements.{recursion_from_All}
 use Rattle.std.proofs.Math.Seq.{drop-cons}
+use Rattle.hk_log.specs.Items.{is_before, rise_after, rise}
+use Rattle.hk_frames.specs.Fields.{number}
+use Rattle.hk_frames.proofs.ReadingSteps.{both, either}
 use Rattle.hk_frames.proofs.Prefix.{kept_both}
-use Rattle.hk_codec.specs.Lists.{groups_of, group_text, last_place, StartsOther, IsFirstGroup}
-use Rattle.hk_codec.proofs.LongestRuns.{run_then}
+use Rattle.hk_codec.specs.Lists.{groups_of, group_text, grouped_text, list_text, last_place, StartsOther, IsFirstGroup}
+use Rattle.hk_codec.proofs.LongestRuns.{not_same, run_then}
 
 -- ---- the last place
 
@@ -64,6 +69,41 @@ first_is {X = X} place (y ∷ xs) x t (suc n) e in_ most same other =
       most = most;
       groups = ap (groups_of place) (sym whole) ∙ run_then place t front back some (recursion_from_All (λ z. (place z).0 ≡ t) front same) other;
     }
+
+-- a place is of no lower table than one before it
+no_lower : (p q : ℕ × ℕ) → is_before p q ≡ true → p.0 ≤ q.0
+no_lower p q before =
+    elim (either (ltb p.0 q.0) (eqb p.0 q.0 && ltb p.1 q.1) before) [
+      | inl lt ↦ omega (arith, ltb-true p.0 q.0 lt)
+      | inr h ↦ omega (arith, eqb-true p.0 q.0 (both (eqb p.0 q.0) (ltb p.1 q.1) h).0)
+    ]
+
+-- places that rise, and end in the table that they begin in, are all of it
+all_of_it : {X : Type 0} (place : X → ℕ × ℕ) (t : ℕ) (p q : ℕ × ℕ) (xs : List X) → t ≤ p.0 → q.0 ≡ t → rise_after (Some p) (map place xs) ≡ true → some_of q ≡ last_place place (Some p) xs → (p.0 ≡ t) × AllByRecursion (λ x. (place x).0 ≡ t) xs
+all_of_it place t p q [] least is rises last = (ap (λ r. r.0) (sym (some_is q p last)) ∙ is, tt)
+all_of_it place t p q (x ∷ xs) least is rises last =
+    let r = both (is_before p (place x)) (rise_after (Some (place x)) (map place xs)) rises in
+    let up : p.0 ≤ (place x).0 = no_lower p (place x) r.0 in
+    let rest = all_of_it place t (place x) q xs (omega (arith, least, up)) is r.1 last in
+    (omega (arith, least, up, rest.0), (rest.0, rest.1))
+
+-- elements that rise, of which the first and the last are of one table, are one group
+pub one_run_only : {X : Type 0} (place : X → ℕ × ℕ) (xs : List X) (x y : X) (t : ℕ) → rise (map place xs) ≡ true → some_of x ≡ slice_get xs 0 → some_of y ≡ slice_get xs (length xs - 1) → (place x).0 ≡ t → (place y).0 ≡ t → groups_of place xs ≡ (t, xs) ∷ []
+unfolding groups_of
+one_run_only place [] x y t rises first last in_ out = absurd cc
+one_run_only {X = X} place (z ∷ zs) x y t rises first last in_ out =
+    let at : (place z).0 ≡ t = ap (λ w. (place w).0) (sym (some_is x z first)) ∙ in_ in
+    let ends : some_of (place y) ≡ last_place place (Some (place z)) zs = last_is place (z ∷ zs) y last in
+    let all = all_of_it place t (place z) (place y) zs (omega (arith, at)) out (both true (rise_after (Some (place z)) (map place zs)) rises).1 ends in
+    ap (groups_of place) (sym (append-nil (z ∷ zs))) ∙ run_then place t (z ∷ zs) [] (omega arith) (at, all.1) tt
+
+-- how a list of one group is written
+pub one_group_text : {X : Type 0} (version : ℕ) (place : X → ℕ × ℕ) (text : X → List ℕ) (xs : List X) (t : ℕ) → version ≢ 1 → groups_of place xs ≡ (t, xs) ∷ [] → number w16 1 ++ group_text text (t, xs) ≡ list_text version place text xs
+unfolding list_text grouped_text
+one_group_text {X = X} version place text xs t never one =
+    let other : eqb version 1 ≡ false = not_same version 1 never in
+    let texts : flat_map (group_text text) ((t, xs) ∷ []) ≡ group_text text (t, xs) = flat_map-cons (group_text text) (t, xs) [] ∙ append-nil (group_text text (t, xs)) in
+    rw other (ap (λ (l : List ℕ). number w16 1 ++ l) (sym texts) ∙ ap (λ (gs : List (ℕ × List X)). number w16 (length gs) ++ flat_map (group_text text) gs) (sym one))
 
 -- ---- counting and writing groups
 

@@ -27,6 +27,10 @@ keyed_row_text r = number w64 r.1 ++ (number w32 r.2.tag ++ (number w16 (length 
 unfoldable pub head_text : ℕ → ℕ → ℕ → ℕ → List ℕ
 head_text version kind log stream = version ∷ kind ∷ number w64 log ++ number w16 stream
 
+-- the length of the rest, its head, and two numbers
+abbrev pub front_text : ℕ → ℕ → ℕ → ℕ → ℕ → ℕ × ℕ → List ℕ
+front_text rest version kind log stream numbers = number w32 rest ++ (head_text version kind log stream ++ (number w64 numbers.0 ++ number w64 numbers.1))
+
 -- the ends
 abbrev pub ends_text : ℕ → List VersionKey → List ℕ
 ends_text version vs = list_text version end_place keyed_end_text vs
@@ -47,6 +51,10 @@ mark_text k = number w64 k.count ++ number w64 k.upto
 unfoldable pub version_text : ℕ → Item → List ℕ
 version_text version (Commit e) = head_text version 1 e.log e.stream ++ entry_text version e
 version_text version (Closed k) = head_text version 2 k.log k.stream ++ mark_text k
+
+-- the same behind a length
+abbrev pub rest_behind : ℕ → ℕ → Item → List ℕ
+rest_behind rest version item = number w32 rest ++ version_text version item
 
 -- what comes after the length
 abbrev pub rest_text : WrittenItem → List ℕ

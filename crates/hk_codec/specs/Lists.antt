@@ -29,6 +29,10 @@ groups_of place (x ∷ xs) = before_groups (place x).0 x (groups_of place xs)
 unfoldable pub group_text : {X : Type 0} → (X → List ℕ) → ℕ × List X → List ℕ
 group_text text g = number w16 g.0 ++ (number w16 (length g.1) ++ flat_map text g.1)
 
+-- the only group behind its count
+abbrev pub only_group_text : {X : Type 0} → (X → List ℕ) → ℕ × List X → List ℕ
+only_group_text text g = number w16 1 ++ group_text text g
+
 -- the groups behind their count
 unfoldable pub grouped_text : {X : Type 0} → (X → ℕ × ℕ) → (X → List ℕ) → List X → List ℕ
 grouped_text place text xs = number w16 (length (groups_of place xs)) ++ flat_map (group_text text) (groups_of place xs)

@@ -3,7 +3,7 @@
 ghost use Rattle.hk_frames.specs.Fields.{GivesValue};
 ghost use Rattle.hk_codec.specs.Reading.{keyed_end_at};
 
-use hk_frames::{Cursor, ReadError, put_body, put_u32, put_u64};
+use hk_frames::{Cursor, ReadError};
 use hk_log::is_after;
 use hk_types::{FormFault, Key, Row, Table, Tag, Time, VersionKey};
 use std::alloc::{AllocError, Global};
@@ -121,10 +121,14 @@ impl Elements for Ends {
         16
     }
 
-    #[tactic(auto, using(std::proofs::Common::append_assoc, hk_frames::proofs::Prefix::kept_all, hk_frames::proofs::Prefix::kept_before), unfolding(crate::specs::Encoding::keyed_end_text))]
+    #[tactic(auto, using(hk_frames::proofs::Prefix::kept_all), unfolding(crate::specs::Encoding::keyed_end_text, hk_frames::specs::Fields::number))]
     fn put(out: &mut Vec<u8>, end: &VersionKey) -> Result<(), AllocError> {
-        put_u64(out, end.key.number())?;
-        put_u64(out, end.born.number())
+        let key = end.key.number().to_be_bytes();
+        let born = end.born.number().to_be_bytes();
+        out.extend_from_slice(&[
+            key[0], key[1], key[2], key[3], key[4], key[5], key[6], key[7], born[0], born[1],
+            born[2], born[3], born[4], born[5], born[6], born[7],
+        ])
     }
 
     #[inline(always)]
@@ -181,11 +185,17 @@ impl Elements for Rows {
         14 + row.2.body().len() as u32
     }
 
-    #[tactic(auto, using(std::proofs::Common::append_assoc, hk_frames::proofs::Prefix::kept_all, hk_frames::proofs::Prefix::kept_before, hk_frames::proofs::Prefix::kept_both), unfolding(crate::specs::Encoding::keyed_row_text))]
+    #[tactic(auto, using(std::proofs::Common::append_assoc, hk_frames::proofs::Prefix::kept_all, hk_frames::proofs::Prefix::kept_before), unfolding(crate::specs::Encoding::keyed_row_text, hk_frames::specs::Fields::number))]
     fn put(out: &mut Vec<u8>, row: &(Table, Key, Row)) -> Result<(), AllocError> {
-        put_u64(out, row.1.number())?;
-        put_u32(out, row.2.tag().number())?;
-        put_body(out, row.2.body())
+        let key = row.1.number().to_be_bytes();
+        let tag = row.2.tag().number().to_be_bytes();
+        let body = row.2.body();
+        let len = (body.len() as u16).to_be_bytes();
+        out.extend_from_slice(&[
+            key[0], key[1], key[2], key[3], key[4], key[5], key[6], key[7], tag[0], tag[1], tag[2],
+            tag[3], len[0], len[1],
+        ])?;
+        out.extend_from_slice(body)
     }
 
     #[inline(always)]

@@ -1,7 +1,6 @@
 //! The encodings of an item.
 
 ghost use Rattle.std.specs.Prelude.{◌≡◌, ◌⊎◌, ◌≤◌, ◌++◌, ◌∷◌, [], Ok, length, take, OnOk, OnErr, IfErr};
-ghost use Rattle.hk_log.specs.Items.{IsMark};
 ghost use Rattle.hk_types.specs.declared.faults.Refusal.TheVariants as refusals;
 ghost use Rattle.hk_codec.specs.Encoding as spec;
 ghost use Rattle.hk_codec.specs.Frames.{encoding_of, Reads};
@@ -10,55 +9,38 @@ use crate::elements::{Ends, Rows};
 use crate::kept_lists::VERSION_1;
 use crate::list_encoding::{list_len, put_list};
 use crate::reading::{ENTRY_KIND, MARK_KIND, VERSION_2};
-use hk_frames::{LENGTH_BYTES, put_u16, put_u32, put_u64};
-use hk_log::{Entry, Item, Mark};
+use hk_frames::LENGTH_BYTES;
+use hk_log::{Item, Mark};
 use hk_types::{Refusal, StreamNo};
 use std::alloc::AllocError;
 
-#[tactic(auto, using(std::proofs::Common::append_assoc, hk_frames::proofs::Prefix::kept_all, hk_frames::proofs::Prefix::kept_before), unfolding(crate::specs::Encoding::head_text))]
-fn put_head(
+/// Adds what stands before an item's lists: the length of the rest, its head, and two numbers, which are the number and
+/// the time of an entry, and the count and the time of a mark.
+#[tactic(auto, using(hk_frames::proofs::Prefix::kept_all), unfolding(crate::specs::Encoding::head_text, hk_frames::specs::Fields::number))]
+fn put_front(
     out: &mut Vec<u8>,
+    rest: u32,
     version: u8,
     kind: u8,
     log: u64,
     stream: StreamNo,
+    numbers: (u64, u64),
 ) -> Result<(), AllocError>
-    ensures ok { OnOk result (out.new.items ≡ out.old.items ++ spec.head_text version kind log stream) }
-    ensures kept { OnErr result (take (length out.old.items) out.new.items ≡ out.old.items) }
+    ensures ok { OnOk result
+        (out.new.items ≡ out.old.items ++ spec.front_text rest version kind log stream numbers) }
+    ensures err { OnErr result (out.new.items ≡ out.old.items) }
 {
-    out.push(version)?;
-    out.push(kind)?;
-    put_u64(out, log)?;
-    put_u16(out, stream.number())
-}
-
-#[tactic(auto, using(std::proofs::Common::append_assoc, hk_frames::proofs::Prefix::kept_all, hk_frames::proofs::Prefix::kept_before, hk_frames::proofs::Prefix::kept_both), unfolding(crate::specs::Encoding::entry_text))]
-fn put_entry(out: &mut Vec<u8>, version: u8, entry: &Entry) -> Result<(), AllocError>
-    ensures ok { OnOk result (out.new.items ≡ out.old.items ++ spec.entry_text version entry.now) }
-    ensures kept { OnErr result (take (length out.old.items) out.new.items ≡ out.old.items) }
-{
-    put_u64(out, entry.number())?;
-    put_u64(out, entry.time().number())?;
-    put_list::<Ends>(out, version, entry.ends())?;
-    put_list::<Rows>(out, version, entry.rows())
-}
-
-#[tactic(auto, using(std::proofs::Common::append_assoc, hk_frames::proofs::Prefix::kept_all, hk_frames::proofs::Prefix::kept_before), unfolding(crate::specs::Encoding::mark_text))]
-fn put_mark(out: &mut Vec<u8>, mark: &Mark) -> Result<(), AllocError>
-    ensures ok { OnOk result (out.new.items ≡ out.old.items ++ spec.mark_text mark.now) }
-    ensures kept { OnErr result (take (length out.old.items) out.new.items ≡ out.old.items) }
-{
-    put_u64(out, mark.n())?;
-    put_u64(out, mark.m().number())
-}
-
-/// How many bytes a mark's frame has behind its length.
-fn mark_len(mark: &Mark) -> u32
-    ensures len { result ≡ 28 }
-    ensures fits { IsMark mark.now }
-{
-    let _known = mark.n();
-    28
+    let rest = rest.to_be_bytes();
+    let log = log.to_be_bytes();
+    let stream = stream.number().to_be_bytes();
+    let first = numbers.0.to_be_bytes();
+    let second = numbers.1.to_be_bytes();
+    out.extend_from_slice(&[
+        rest[0], rest[1], rest[2], rest[3], version, kind, log[0], log[1], log[2], log[3], log[4],
+        log[5], log[6], log[7], stream[0], stream[1], first[0], first[1], first[2], first[3],
+        first[4], first[5], first[6], first[7], second[0], second[1], second[2], second[3],
+        second[4], second[5], second[6], second[7],
+    ])
 }
 
 /// How many bytes follow the length in a version.
@@ -75,23 +57,45 @@ fn rest_len(item: &Item, version: u8) -> u32
             let rows = list_len::<Rows>(version, entry.rows());
             28 + ends + rows
         }
-        Item::Closed(mark) => mark_len(mark),
+        Item::Closed(mark) => {
+            let _known = mark.n();
+            28
+        }
     }
 }
 
-#[tactic(auto, using(std::proofs::Common::append_assoc, hk_frames::proofs::Prefix::kept_all, hk_frames::proofs::Prefix::kept_before, hk_frames::proofs::Prefix::kept_both), unfolding(crate::specs::Encoding::version_text))]
-fn put_rest(out: &mut Vec<u8>, version: u8, item: &Item) -> Result<(), AllocError>
-    ensures ok { OnOk result (out.new.items ≡ out.old.items ++ spec.version_text version item.now) }
+/// Adds the item in a version behind the length of its rest, which is given.
+#[tactic(auto, using(std::proofs::Common::append_assoc, hk_frames::proofs::Prefix::kept_all, hk_frames::proofs::Prefix::kept_before, hk_frames::proofs::Prefix::kept_both), unfolding(crate::specs::Encoding::version_text, crate::specs::Encoding::entry_text, crate::specs::Encoding::mark_text))]
+fn put_rest(out: &mut Vec<u8>, rest: u32, version: u8, item: &Item) -> Result<(), AllocError>
+    ensures ok { OnOk result (out.new.items ≡ out.old.items ++ spec.rest_behind rest version item.now) }
     ensures kept { OnErr result (take (length out.old.items) out.new.items ≡ out.old.items) }
 {
     match item {
         Item::Commit(entry) => {
-            put_head(out, version, ENTRY_KIND, entry.log(), entry.stream())?;
-            put_entry(out, version, entry)
+            let numbers = (entry.number(), entry.time().number());
+            put_front(
+                out,
+                rest,
+                version,
+                ENTRY_KIND,
+                entry.log(),
+                entry.stream(),
+                numbers,
+            )?;
+            put_list::<Ends>(out, version, entry.ends())?;
+            put_list::<Rows>(out, version, entry.rows())
         }
         Item::Closed(mark) => {
-            put_head(out, version, MARK_KIND, mark.log(), mark.stream())?;
-            put_mark(out, mark)
+            let numbers = (mark.n(), mark.m().number());
+            put_front(
+                out,
+                rest,
+                version,
+                MARK_KIND,
+                mark.log(),
+                mark.stream(),
+                numbers,
+            )
         }
     }
 }
@@ -117,8 +121,7 @@ fn put_version(out: &mut Vec<u8>, version: u8, item: &Item) -> Result<(), AllocE
 {
     let rest = rest_len(item, version);
     out.reserve(LENGTH_BYTES + rest as usize)?;
-    put_u32(out, rest)?;
-    put_rest(out, version, item)
+    put_rest(out, rest, version, item)
 }
 
 /// Adds the item's encoding in version 2 at the end, as `encode` does. The only error is out of memory; what was

@@ -1,7 +1,8 @@
 //! The lists of an entry as bytes.
 
-ghost use Rattle.std.specs.Prelude.{◌≡◌, ◌≤◌, ◌+◌, ◌*◌, ◌++◌, All, length, take, drop, OnOk, OnErr, MatchOption};
+ghost use Rattle.std.specs.Prelude.{◌≡◌, ◌≤◌, ◌+◌, ◌*◌, ◌∷◌, [], ◌++◌, All, length, map, take, drop, OnOk, OnErr, IfSome, MatchOption, true};
 ghost use Rattle.std.specs.List.{flat_map};
+ghost use Rattle.hk_log.specs.Items.{rise};
 ghost use Rattle.hk_codec.specs.Lists as spec;
 
 use crate::elements::Elements;
@@ -74,9 +75,24 @@ fn group_count<E: Elements>(elements: &[E::Value]) -> usize
     }
 }
 
+/// The table of all the elements, where they are of one: that of the first and of the last, since they rise.
+fn one_table<E: Elements>(elements: &[E::Value]) -> Option<Table>
+    requires { rise (map E.place elements.now) ≡ true }
+    ensures { IfSome result (λ table. spec.groups_of E.place elements.now ≡ (table, elements.now) ∷ []) }
+{
+    let (first, last) = (elements.first()?, elements.last()?);
+    let (table, _key) = E::place_of(first);
+    let (last_table, _key) = E::place_of(last);
+    if table != last_table {
+        return None;
+    }
+    Some(table)
+}
+
 /// How many bytes a list has as a version has it.
 pub(crate) fn list_len<E: Elements>(version: u8, elements: &[E::Value]) -> u32
-    requires { length elements.now ≤ 1024 }
+    requires most { length elements.now ≤ 1024 }
+    requires rising { rise (map E.place elements.now) ≡ true }
     ensures len { result ≡ length (spec.list_text version E.place E.text elements.now) }
     ensures bound { result ≤ 2 + 4114 * length elements.now }
     ensures fits { All E.Fits elements.now }
@@ -85,7 +101,10 @@ pub(crate) fn list_len<E: Elements>(version: u8, elements: &[E::Value]) -> u32
     if version == VERSION_1 {
         return 2 + 2 * elements.len() as u32 + beside;
     }
-    2 + 4 * group_count::<E>(elements) as u32 + beside
+    match one_table::<E>(elements) {
+        Some(_table) => 6 + beside,
+        None => 2 + 4 * group_count::<E>(elements) as u32 + beside,
+    }
 }
 
 /// Adds the elements one by one behind their count.
@@ -113,6 +132,18 @@ fn put_tabled<E: Elements>(out: &mut Vec<u8>, element: &E::Value) -> Result<(), 
     E::put(out, element)
 }
 
+/// Adds the elements without their tables.
+#[tactic(auto, using(std::proofs::Common::append_assoc, hk_frames::proofs::Prefix::kept_all, hk_frames::proofs::Prefix::kept_before, hk_frames::proofs::Prefix::kept_both))]
+fn put_elements<E: Elements>(out: &mut Vec<u8>, elements: &[E::Value]) -> Result<(), AllocError>
+    ensures ok { OnOk result (out.new.items ≡ out.old.items ++ flat_map E.text elements.now) }
+    ensures kept { OnErr result (take (length out.old.items) out.new.items ≡ out.old.items) }
+{
+    for element in elements {
+        E::put(out, element)?;
+    }
+    Ok(())
+}
+
 /// Adds a group of this table.
 #[tactic(auto, using(std::proofs::Common::append_assoc, hk_frames::proofs::Prefix::kept_all, hk_frames::proofs::Prefix::kept_before, hk_frames::proofs::Prefix::kept_both), unfolding(crate::specs::Lists::group_text))]
 fn put_group<E: Elements>(
@@ -126,10 +157,24 @@ fn put_group<E: Elements>(
 {
     put_u16(out, table.number())?;
     put_u16(out, elements.len() as u16)?;
-    for element in elements {
-        E::put(out, element)?;
-    }
-    Ok(())
+    put_elements::<E>(out, elements)
+}
+
+/// Adds a group of this table behind a count of groups, which is one.
+#[tactic(auto, using(std::proofs::Common::append_assoc, hk_frames::proofs::Prefix::kept_all, hk_frames::proofs::Prefix::kept_before, hk_frames::proofs::Prefix::kept_both), unfolding(crate::specs::Lists::group_text, hk_frames::specs::Fields::number))]
+fn put_one_group<E: Elements>(
+    out: &mut Vec<u8>,
+    table: Table,
+    elements: &[E::Value],
+) -> Result<(), AllocError>
+    requires { length elements.now ≤ 1024 }
+    ensures ok { OnOk result (out.new.items ≡ out.old.items ++ spec.only_group_text E.text (table, elements.now)) }
+    ensures kept { OnErr result (take (length out.old.items) out.new.items ≡ out.old.items) }
+{
+    let table = table.number().to_be_bytes();
+    let count = (elements.len() as u16).to_be_bytes();
+    out.extend_from_slice(&[0, 1, table[0], table[1], count[0], count[1]])?;
+    put_elements::<E>(out, elements)
 }
 
 /// Adds the elements in groups behind the count of these.
@@ -160,13 +205,16 @@ pub(crate) fn put_list<E: Elements>(
     version: u8,
     elements: &[E::Value],
 ) -> Result<(), AllocError>
-    requires { length elements.now ≤ 1024 }
+    requires most { length elements.now ≤ 1024 }
+    requires rising { rise (map E.place elements.now) ≡ true }
     ensures ok { OnOk result (out.new.items ≡ out.old.items ++ spec.list_text version E.place E.text elements.now) }
     ensures kept { OnErr result (take (length out.old.items) out.new.items ≡ out.old.items) }
 {
     if version == VERSION_1 {
-        put_counted::<E>(out, elements)
-    } else {
-        put_groups::<E>(out, elements)
+        return put_counted::<E>(out, elements);
+    }
+    match one_table::<E>(elements) {
+        Some(table) => put_one_group::<E>(out, table, elements),
+        None => put_groups::<E>(out, elements),
     }
 }
