@@ -31,7 +31,6 @@ KNOWN = {
         ("hk_model/proofs/History/Commits.antt", "hk_primary/proofs/Verdicts.antt"): "the same of commits",
         ("hk_state/proofs/replica/ReplicaState/absorb_entry/Answers.antt", "hk_state/proofs/replica/ReplicaState/absorb_entry/Answers.antt"):
             "one answer for each of two ways out of a function",
-        ("hk_store/proofs/facts/Facts/put_rows/Answers.antt", "hk_store/proofs/facts/Facts/put_rows/Answers.antt"): "the same",
     },
 }
 

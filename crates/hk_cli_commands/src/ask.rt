@@ -8,7 +8,7 @@ use crate::status::put_status;
 use hk_cli_calls::OutputForm;
 use hk_cli_input::{Sink, Stop, hand_items};
 use hk_cli_reasons::{Origin, Place, RequestContext};
-use hk_log::Item;
+use hk_log::{Item, Spare};
 use hk_query::{Answer, Query, ask};
 use hk_state::{ReplicaState, front_of};
 use hk_types::{Config, Key, Refusal, Table, Time};
@@ -35,8 +35,8 @@ impl Sink for Absorber {
 
     ghost took = { λ start items now. TakesAll start.state items now.state };
 
-    fn take(&mut self, item: Item) -> Result<(), Stop> {
-        let _took = self.state.absorb_owned(item)?;
+    fn take(&mut self, item: Item, spare: &mut Spare) -> Result<(), Stop> {
+        let _took = self.state.absorb_owned(item, spare)?;
         Ok(())
     }
 }

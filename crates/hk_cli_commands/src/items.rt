@@ -6,7 +6,7 @@ use crate::output::Output;
 use hk_cli_calls::OutputForm;
 use hk_cli_input::{Sink, Stop, hand_items};
 use hk_codec::ItemOutline;
-use hk_log::Item;
+use hk_log::{Item, Spare};
 use std::alloc::Global;
 use std::io::{Read, Write};
 
@@ -16,7 +16,7 @@ impl<'a, W: Write, E: Write> Sink for Output<'a, W, E> {
 
     ghost took = { λ _ _ _. Unit {0} };
 
-    fn take(&mut self, item: ItemOutline) -> Result<(), Stop> {
+    fn take(&mut self, item: ItemOutline, _spare: &mut ()) -> Result<(), Stop> {
         self.print(&item)
     }
 }
@@ -32,7 +32,7 @@ impl<'o, 'a, W: Write, E: Write> Sink for JsonItems<'o, 'a, W, E> {
 
     ghost took = { λ _ _ _. Unit {0} };
 
-    fn take(&mut self, item: Item) -> Result<(), Stop> {
+    fn take(&mut self, item: Item, _spare: &mut Spare) -> Result<(), Stop> {
         self.output.print_json(&item)
     }
 }

@@ -9,7 +9,7 @@ use crate::stop::Stop;
 use hk_cli_reasons::{Origin, Place, RequestContext};
 use hk_codec::{ItemFormat, ItemOutline, OutlineFormat, pieces_join};
 use hk_frames::{Format, FrameFeeder};
-use hk_log::Item;
+use hk_log::{Item, Spare};
 use hk_types::{Refusal, StreamNo};
 use std::alloc::Global;
 use std::io::Read;
@@ -17,7 +17,7 @@ use std::io::Read;
 /// How many bytes of a piece are decoded at a time, so that the next items take the memory that the last ones gave back.
 const PART_BYTES: usize = 1_024;
 
-/// For how many items room is made before a part is decoded.
+/// For how many items room is made before a part is decoded, and of how many spare room is kept.
 const PART_ITEMS: usize = 8;
 
 /// What the items of an input are read as: whole, or as their outlines.
@@ -35,6 +35,9 @@ pub trait FromFrame: Drop {
 
     /// Its log and its stream.
     fn place(&self) -> (u64, StreamNo);
+
+    /// Spare room for a part's items, none of which is filled yet.
+    fn spare(alloc: Global) -> <Self::Format as Format>::Spare;
 
     /// Does nothing: what is read is what frames add, and a text in pieces is read as one.
     fn laws()
@@ -57,6 +60,10 @@ impl FromFrame for Item {
         }
     }
 
+    fn spare(alloc: Global) -> Spare {
+        Spare::new(alloc, PART_ITEMS)
+    }
+
     fn laws() {
         pieces_join();
     }
@@ -76,6 +83,8 @@ impl FromFrame for ItemOutline {
         }
     }
 
+    fn spare(_alloc: Global) {}
+
     fn laws() {
         pieces_join();
     }
@@ -88,8 +97,13 @@ pub trait Sink {
 
     ghost took: { Self → List Self.Item → Self → Type 0 };
 
-    /// Receives the next item, or returns what stops the command; then it did not take the item.
-    fn take(&mut self, item: Self::Item) -> Result<(), Stop>
+    /// Receives the next item, or returns what stops the command; then it did not take the item. What it needs no more of
+    /// an item it may leave in `spare`, for the next ones.
+    fn take(
+        &mut self,
+        item: Self::Item,
+        spare: &mut <<Self::Item as FromFrame>::Format as Format>::Spare,
+    ) -> Result<(), Stop>
         ensures ok { OnOk result (TookMore took self.old self.new (item ∷ [])) }
         ensures err { OnErr result (TookNone took self.old self.new) };
 }
@@ -119,13 +133,18 @@ fn origin_of(frames: u64, asked: RequestContext) -> Origin {
 }
 
 /// Passes items to the sink, and counts those that it accepted.
-fn take_all<S: Sink>(items: Vec<S::Item>, sink: &mut S, frames: &mut u64) -> Result<(), Stop>
+fn take_all<S: Sink>(
+    items: Vec<S::Item>,
+    sink: &mut S,
+    spare: &mut <<S::Item as FromFrame>::Format as Format>::Spare,
+    frames: &mut u64,
+) -> Result<(), Stop>
     ensures ok { OnOk result (TookMore S.took sink.old sink.new items.items) }
     ensures err { OnErr result (TookFront S.took sink.old sink.new items.items) }
 {
     for item in items {
         let (log, stream) = item.place();
-        if let Err(stop) = sink.take(item) {
+        if let Err(stop) = sink.take(item, spare) {
             return Err(stop.at(origin_of(*frames, RequestContext::Item { log, stream })));
         }
         *frames = frames.saturating_add(1);
@@ -157,6 +176,7 @@ struct Position {
 fn take_piece<S: Sink>(
     alloc: Global,
     feeder: &mut FrameFeeder<<S::Item as FromFrame>::Format>,
+    spare: &mut <<S::Item as FromFrame>::Format as Format>::Spare,
     at: &mut Position,
     sink: &mut S,
     piece: &[u8],
@@ -172,8 +192,8 @@ fn take_piece<S: Sink>(
         let mut items = Vec::new(alloc);
         // (where there is no room for them at once, it is made as they come)
         let _room = items.reserve(PART_ITEMS);
-        let fed = feeder.feed(part, &mut items);
-        take_all(items, sink, &mut at.count)?;
+        let fed = feeder.feed_with(part, spare, &mut items);
+        take_all(items, sink, spare, &mut at.count)?;
         checked(fed, at.count, at.kind)?;
     }
     Ok(())
@@ -193,13 +213,21 @@ pub fn hand_items<I: Read, S: Sink>(alloc: Global, input: &mut I, sink: &mut S) 
     let mut room = new_piece(alloc)?;
     let piece = room.as_mut_slice();
     let mut feeder = FrameFeeder::new(alloc);
+    let mut spare = S::Item::spare(alloc);
     let mut at = Position { count: 0, kind: 0 };
     for _ in 0..MOST_READS {
         let count = read_next(input, piece)?;
         if count == 0 {
             return checked(feeder.finish(), at.count, at.kind);
         }
-        take_piece(alloc, &mut feeder, &mut at, sink, &piece[..count])?;
+        take_piece(
+            alloc,
+            &mut feeder,
+            &mut spare,
+            &mut at,
+            sink,
+            &piece[..count],
+        )?;
     }
     Err(Stop::ReadFault)
 }

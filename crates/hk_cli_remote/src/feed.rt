@@ -4,7 +4,7 @@ use crate::link::{Link, unasked};
 use hk_cli_commands::Output;
 use hk_cli_input::{Sink, Stop, hand_items};
 use hk_codec::frame_len;
-use hk_log::Item;
+use hk_log::{Item, Spare};
 use hk_types::Refusal;
 use hk_wire::{LaterReply, Reply, Request};
 use std::alloc::Global;
@@ -129,7 +129,7 @@ impl Sink for Batches<'_> {
 
     ghost took = { λ _ _ _. Unit {0} };
 
-    fn take(&mut self, item: Item) -> Result<(), Stop> {
+    fn take(&mut self, item: Item, _spare: &mut Spare) -> Result<(), Stop> {
         self.bytes = self.bytes.saturating_add(frame_len(&item) as u64);
         if self.items.push(item).is_err() {
             return Err(Stop::Refused(Refusal::Memory));

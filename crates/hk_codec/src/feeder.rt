@@ -5,7 +5,7 @@ ghost use Rattle.hk_codec.specs.Frames.{Adds, rest_from};
 
 use crate::reading::ItemFormat;
 use hk_frames::{FrameFeeder, Progress, take_frames};
-use hk_log::Item;
+use hk_log::{Item, Spare};
 use std::alloc::{AllocError, Global};
 
 /// Reads items from a stream of frames that comes in pieces. It keeps less than a frame, or the fault that it met.
@@ -21,5 +21,6 @@ pub fn take_items(alloc: Global, bytes: &[u8], out: &mut Vec<Item>) -> Result<Pr
     ensures read { IfOk result (λ p.
         Adds out.old.items out.new.items bytes.now (rest_from p.used bytes.now p.fault)) }
 {
-    take_frames::<ItemFormat>(alloc, bytes, out)
+    let mut spare = Spare::default();
+    take_frames::<ItemFormat>(alloc, bytes, &mut spare, out)
 }

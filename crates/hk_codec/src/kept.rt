@@ -18,8 +18,11 @@ pub(crate) trait Keeps: Drop {
     /// What is kept.
     ghost kept: { Keeping Self };
 
+    /// Room for them. What it holds says nothing.
+    type Room: Drop;
+
     /// No element was read. It allocates nothing.
-    fn none(alloc: Global) -> Self
+    fn none(room: Self::Room) -> Self
         ensures { result ≡ kept.none };
 
     /// How many were read.
@@ -68,10 +71,12 @@ impl<E: Elements> Keeps for All<E> {
 
     ghost kept = { all_of E.place E.read };
 
-    fn none(alloc: Global) -> All<E> {
-        All {
-            elements: Vec::new(alloc),
-        }
+    type Room = Vec<E::Value>;
+
+    fn none(room: Vec<E::Value>) -> All<E> {
+        let mut elements = room;
+        elements.clear();
+        All { elements }
     }
 
     fn count(&self) -> usize {
@@ -132,7 +137,9 @@ impl<E: Elements> Keeps for Passed<E> {
 
     ghost kept = { passed_of E.place E.read };
 
-    fn none(_alloc: Global) -> Passed<E> {
+    type Room = ();
+
+    fn none(_room: ()) -> Passed<E> {
         Passed {
             count: 0,
             last: None,

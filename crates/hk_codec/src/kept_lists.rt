@@ -125,6 +125,7 @@ pub(crate) fn read_list<K: Keeps>(
     version: u8,
     time: Time,
     others: usize,
+    room: K::Room,
 ) -> Result<K, ReadError>
     ensures { GivesOrRunsOut (λ k. (k, cursor.new)) result (kept_list_at K.kept version time others cursor.old) }
 {
@@ -132,7 +133,7 @@ pub(crate) fn read_list<K: Keeps>(
     if count as usize > MOST_WRITES || (others == 0 && count == 0) {
         return Err(ReadError::Fault(FormFault::BadCount));
     }
-    let mut kept = K::none(alloc);
+    let mut kept = K::none(room);
     if version == VERSION_1 {
         read_one_by_one(alloc, cursor, time, count, &mut kept)?;
     } else {

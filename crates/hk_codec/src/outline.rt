@@ -62,6 +62,8 @@ impl Format for OutlineFormat {
 
     type Value = ItemOutline;
 
+    type Spare = ();
+
     ghost LEAST_BYTES = { 28 };
 
     ghost MOST_BYTES = { 4233248 };
@@ -75,7 +77,7 @@ impl Format for OutlineFormat {
     const MOST_BYTES: usize = 4_233_248;
 
     #[tactic(auto, unfolding(crate::specs::Reading::item_at))]
-    fn read_rest(alloc: Global, rest: &[u8]) -> Result<ItemOutline, ReadError> {
+    fn read_rest(alloc: Global, rest: &[u8], _spare: &mut ()) -> Result<ItemOutline, ReadError> {
         let mut cursor = Cursor::new(rest);
         let head = read_head(&mut cursor)?;
         let outline = pass_kind(alloc, &mut cursor, head)?;

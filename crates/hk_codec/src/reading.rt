@@ -10,7 +10,7 @@ use crate::kept::{All, Keeps, Passed};
 use crate::kept_lists::{VERSION_1, read_list};
 use crate::outline::{EntryOutline, ItemOutline};
 use hk_frames::{Cursor, Format, ReadError};
-use hk_log::{Entry, Item, Mark};
+use hk_log::{Entry, Item, Mark, Spare};
 use hk_types::{FormFault, Key, Row, StreamNo, Table, Time, VersionKey};
 use std::alloc::Global;
 
@@ -44,10 +44,11 @@ fn read_ends(
     cursor: &mut Cursor,
     version: u8,
     time: Time,
+    room: Vec<VersionKey>,
 ) -> Result<Vec<VersionKey>, ReadError>
     ensures { GivesOrRunsOut (λ x. (x.items, cursor.new)) result (spec.ends_of_version version time cursor.old) }
 {
-    let kept: All<Ends> = read_list(alloc, cursor, version, time, 1)?;
+    let kept: All<Ends> = read_list(alloc, cursor, version, time, 1, room)?;
     Ok(kept.elements)
 }
 
@@ -59,10 +60,11 @@ fn read_rows(
     version: u8,
     time: Time,
     ends: usize,
+    room: Vec<(Table, Key, Row)>,
 ) -> Result<Vec<(Table, Key, Row)>, ReadError>
     ensures { GivesOrRunsOut (λ x. (x.items, cursor.new)) result (spec.rows_of_version version ends cursor.old) }
 {
-    let kept: All<Rows> = read_list(alloc, cursor, version, time, ends)?;
+    let kept: All<Rows> = read_list(alloc, cursor, version, time, ends, room)?;
     Ok(kept.elements)
 }
 
@@ -107,27 +109,38 @@ pub(crate) fn read_head(cursor: &mut Cursor) -> Result<FrameHead, FormFault>
 }
 
 #[tactic(auto, unfolding(crate::specs::Reading::entry_at))]
-fn read_entry(alloc: Global, cursor: &mut Cursor, head: FrameHead) -> Result<Entry, ReadError>
+fn read_entry(
+    alloc: Global,
+    cursor: &mut Cursor,
+    head: FrameHead,
+    spare: &mut Spare,
+) -> Result<Entry, ReadError>
     requires bytes { IsBytes cursor.old }
     requires version { (head.version ≡ 1) ⊎ (head.version ≡ 2) }
     ensures { GivesOrRunsOut (λ x. (x, cursor.new)) result (spec.entry_behind (spec.head_seen head) cursor.old) }
 {
     let (number, time) = read_moment(cursor)?;
-    let ends = read_ends(alloc, cursor, head.version, time)?;
-    let rows = read_rows(alloc, cursor, head.version, time, ends.len())?;
+    let (ends_room, rows_room) = spare.take(alloc);
+    let ends = read_ends(alloc, cursor, head.version, time, ends_room)?;
+    let rows = read_rows(alloc, cursor, head.version, time, ends.len(), rows_room)?;
     let _known = head.stream.number();
     Ok(Entry::of_parts(head.log, head.stream, number, time, ends, rows))
 }
 
 /// Reads what follows the head.
 #[tactic(auto, unfolding(crate::specs::Reading::kind_at))]
-fn read_kind(alloc: Global, cursor: &mut Cursor, head: FrameHead) -> Result<Item, ReadError>
+fn read_kind(
+    alloc: Global,
+    cursor: &mut Cursor,
+    head: FrameHead,
+    spare: &mut Spare,
+) -> Result<Item, ReadError>
     requires bytes { IsBytes cursor.old }
     requires version { (head.version ≡ 1) ⊎ (head.version ≡ 2) }
     ensures { GivesOrRunsOut (λ x. (x, cursor.new)) result (spec.kind_at (spec.head_seen head) cursor.old) }
 {
     if head.kind == ENTRY_KIND {
-        let entry = read_entry(alloc, cursor, head)?;
+        let entry = read_entry(alloc, cursor, head, spare)?;
         return Ok(Item::Commit(entry));
     }
     let mark = read_mark(cursor, head.log, head.stream)?;
@@ -138,12 +151,12 @@ fn read_kind(alloc: Global, cursor: &mut Cursor, head: FrameHead) -> Result<Item
 /// length, a version that is neither 1 nor 2, an unknown kind, a stream outside 1 to 64, and then what `Entry::new` and
 /// `Mark::new` ask; bytes behind the last field are a wrong length.
 #[tactic(auto, unfolding(crate::specs::Reading::item_at))]
-pub(crate) fn read_item(alloc: Global, rest: &[u8]) -> Result<Item, ReadError>
+pub(crate) fn read_item(alloc: Global, rest: &[u8], spare: &mut Spare) -> Result<Item, ReadError>
     ensures { GivesOrRunsOut (λ x. x) result (mapped (λ w. w.item) (spec.item_at rest.now)) }
 {
     let mut cursor = Cursor::new(rest);
     let head = read_head(&mut cursor)?;
-    let item = read_kind(alloc, &mut cursor, head)?;
+    let item = read_kind(alloc, &mut cursor, head, spare)?;
     if !cursor.is_empty() {
         return Err(ReadError::Fault(FormFault::WrongLength));
     }
@@ -159,9 +172,9 @@ fn pass_entry(
     ensures { GivesOrRunsOut (λ x. (x, cursor.new)) result (entry_outline_behind (spec.head_seen head) cursor.old) }
 {
     let (number, time) = read_moment(cursor)?;
-    let passed: Passed<Ends> = read_list(alloc, cursor, head.version, time, 1)?;
+    let passed: Passed<Ends> = read_list(alloc, cursor, head.version, time, 1, ())?;
     let ends = passed.count();
-    let others: Passed<Rows> = read_list(alloc, cursor, head.version, time, ends)?;
+    let others: Passed<Rows> = read_list(alloc, cursor, head.version, time, ends, ())?;
     Ok(EntryOutline {
         log: head.log,
         stream: head.stream,
@@ -199,6 +212,8 @@ impl Format for ItemFormat {
 
     type Value = Item;
 
+    type Spare = Spare;
+
     ghost LEAST_BYTES = { 28 };
 
     ghost MOST_BYTES = { 4233248 };
@@ -211,8 +226,8 @@ impl Format for ItemFormat {
 
     const MOST_BYTES: usize = 4_233_248;
 
-    fn read_rest(alloc: Global, rest: &[u8]) -> Result<Item, ReadError> {
-        read_item(alloc, rest)
+    fn read_rest(alloc: Global, rest: &[u8], spare: &mut Spare) -> Result<Item, ReadError> {
+        read_item(alloc, rest, spare)
     }
 
     fn laws() {}

@@ -6,6 +6,7 @@ ghost use Rattle.hk_codec.specs.Rewriting.{HasRewritten};
 use crate::encoding::put_frame;
 use crate::reading::ItemFormat;
 use hk_frames::{ReadError, next_frame};
+use hk_log::Spare;
 use hk_types::{FormFault, Refusal};
 use std::alloc::Global;
 
@@ -29,8 +30,9 @@ fn rewrite_frames(alloc: Global, bytes: &[u8], out: &mut Vec<u8>) -> Result<(), 
     ensures { HasRewritten bytes.now out.old.items out.new.items result }
 {
     let mut used = 0;
+    let mut spare = Spare::default();
     'frames: loop {
-        match next_frame::<ItemFormat>(alloc, &bytes[used..]) {
+        match next_frame::<ItemFormat>(alloc, &bytes[used..], &mut spare) {
             Ok(Some((item, len))) => {
                 put_frame(out, &item)?;
                 used += len;

@@ -15,6 +15,9 @@ pub trait Format {
     /// What a frame contains.
     type Value: Drop;
 
+    /// Room that values left, into which the next ones are read. What is in it says nothing.
+    type Spare: Default + Drop;
+
     /// The fewest bytes of a rest.
     ghost LEAST_BYTES: { ℕ };
 
@@ -33,8 +36,12 @@ pub trait Format {
     /// The most bytes of a rest.
     const MOST_BYTES: usize;
 
-    /// The value that is all of the rest, or its first fault; `Memory` where memory runs out.
-    fn read_rest(alloc: Global, rest: &[u8]) -> Result<Self::Value, ReadError>
+    /// The value that is all of the rest, or its first fault; `Memory` where memory runs out. It may take spare room.
+    fn read_rest(
+        alloc: Global,
+        rest: &[u8],
+        spare: &mut Self::Spare,
+    ) -> Result<Self::Value, ReadError>
         ensures { GivesOrRunsOut format.seen result (mapped format.meant (format.read rest.now)) };
 
     /// Does nothing: reading and encoding undo each other, and what frames of the format add is what `Adds` defines.

@@ -55,15 +55,33 @@ impl<F: Format> FrameFeeder<F> {
         // Where memory runs out nothing changes.
         ensures memory { KeepsOnMemory self.old self.new out.old.items out.new.items result }
     {
+        let mut spare = F::Spare::default();
+        self.feed_with(piece, &mut spare, out)
+    }
+
+    /// As `feed`, and the values are read into spare room, while there is some.
+    pub fn feed_with(
+        &mut self,
+        piece: &[u8],
+        spare: &mut F::Spare,
+        out: &mut Vec<F::Value>,
+    ) -> Result<(), Refusal>
+        // The kept bytes and the piece begin with the encodings of the added values. What follows them is kept.
+        ensures reads { Feeds F.Adds self.old self.new out.old.items out.new.items piece.now result }
+        // A fault is permanent.
+        ensures fault { KeepsFault self.old self.new out.old.items out.new.items result }
+        // Where memory runs out nothing changes.
+        ensures memory { KeepsOnMemory self.old self.new out.old.items out.new.items result }
+    {
         F::laws();
         if let Some(fault) = self.fault {
             return Err(Refusal::Form(fault));
         }
         let count = out.len();
         let fed = if self.rest.is_empty() {
-            fresh_frames::<F>(self.alloc, &mut self.rest, piece, out)
+            fresh_frames::<F>(self.alloc, &mut self.rest, piece, spare, out)
         } else {
-            more_frames::<F>(self.alloc, &mut self.rest, piece, out)
+            more_frames::<F>(self.alloc, &mut self.rest, piece, spare, out)
         };
         match fed {
             Ok(None) => Ok(()),
@@ -97,6 +115,7 @@ fn fresh_frames<F: Format>(
     alloc: Global,
     rest: &mut Vec<u8>,
     piece: &[u8],
+    spare: &mut F::Spare,
     out: &mut Vec<F::Value>,
 ) -> Result<Option<FormFault>, AllocError>
     requires sound { IsSound F.format }
@@ -105,7 +124,7 @@ fn fresh_frames<F: Format>(
     ensures kept { OnErr result (take (length out.old.items) out.new.items ≡ out.old.items) }
     ensures err { OnErr result (rest.new.items ≡ rest.old.items) }
 {
-    let progress = take_frames::<F>(alloc, piece, out)?;
+    let progress = take_frames::<F>(alloc, piece, spare, out)?;
     rest.extend_from_slice(&piece[progress.used..])?;
     Ok(progress.fault)
 }
@@ -115,6 +134,7 @@ fn more_frames<F: Format>(
     alloc: Global,
     rest: &mut Vec<u8>,
     piece: &[u8],
+    spare: &mut F::Spare,
     out: &mut Vec<F::Value>,
 ) -> Result<Option<FormFault>, AllocError>
     requires { IsSound F.format }
@@ -123,7 +143,7 @@ fn more_frames<F: Format>(
     ensures err { OnErr result (rest.new.items ≡ rest.old.items) }
 {
     let before = rest.len();
-    let fed = topped_frames::<F>(alloc, rest, piece, out);
+    let fed = topped_frames::<F>(alloc, rest, piece, spare, out);
     if fed.is_err() {
         rest.truncate(before);
     }
@@ -136,6 +156,7 @@ fn topped_frames<F: Format>(
     alloc: Global,
     rest: &mut Vec<u8>,
     piece: &[u8],
+    spare: &mut F::Spare,
     out: &mut Vec<F::Value>,
 ) -> Result<Option<FormFault>, AllocError>
     requires { IsSound F.format }
@@ -145,7 +166,7 @@ fn topped_frames<F: Format>(
 {
     let (first, second) = piece.split_at(lacking(rest, piece));
     rest.extend_from_slice(first)?;
-    let progress = take_frames::<F>(alloc, rest, out)?;
+    let progress = take_frames::<F>(alloc, rest, spare, out)?;
     if progress.fault.is_some() {
         return Ok(progress.fault);
     }
@@ -153,7 +174,7 @@ fn topped_frames<F: Format>(
         drop_front(rest, progress.used);
         return Ok(None);
     }
-    let behind = take_frames::<F>(alloc, second, out)?;
+    let behind = take_frames::<F>(alloc, second, spare, out)?;
     replace(rest, &second[behind.used..])?;
     Ok(behind.fault)
 }

@@ -52,13 +52,14 @@ pub fn frame_rest(bytes: &[u8], least: usize, most: usize) -> Result<Option<&[u8
 pub fn next_frame<F: Format>(
     alloc: Global,
     bytes: &[u8],
+    spare: &mut F::Spare,
 ) -> Result<Option<(F::Value, usize)>, ReadError>
     ensures { GivesOrRunsOut (seen_with_len F.format.seen) result (frame_seen F.format bytes.now) }
 {
     match frame_rest(bytes, F::LEAST_BYTES, F::MOST_BYTES)? {
         None => Ok(None),
         Some(rest) => {
-            let value = F::read_rest(alloc, rest)?;
+            let value = F::read_rest(alloc, rest, spare)?;
             Ok(Some((value, LENGTH_BYTES + rest.len())))
         }
     }
@@ -76,6 +77,7 @@ pub struct Progress {
 pub fn take_frames<F: Format>(
     alloc: Global,
     bytes: &[u8],
+    spare: &mut F::Spare,
     out: &mut Vec<F::Value>,
 ) -> Result<Progress, AllocError>
     requires { IsSound F.format }
@@ -86,7 +88,7 @@ pub fn take_frames<F: Format>(
 {
     let mut used = 0;
     'frames: loop {
-        match next_frame::<F>(alloc, &bytes[used..]) {
+        match next_frame::<F>(alloc, &bytes[used..], spare) {
             Ok(Some((value, len))) => {
                 out.push(value)?;
                 used += len;

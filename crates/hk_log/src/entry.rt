@@ -4,6 +4,7 @@ ghost use Rattle.std.specs.Prelude.{◌≡◌, IfOk};
 ghost use Rattle.hk_log.specs.Items.{checked_entry, entry_value, IsEntry};
 
 use crate::places::{MOST_WRITES, ends_rise, rows_rise, were_born};
+use crate::spare::Writes;
 use hk_types::{FormFault, Key, Row, StreamNo, Table, Time, VersionKey};
 use std::alloc::{AllocError, Global};
 use std::marker::Model;
@@ -145,7 +146,7 @@ impl Entry {
     }
 
     /// The versions that it ended and the rows that it put in, moved out of it: no body is copied.
-    pub fn into_writes(self) -> (Vec<VersionKey>, Vec<(Table, Key, Row)>)
+    pub fn into_writes(self) -> Writes
         ensures ends { result.0.items ≡ self.ends }
         ensures rows { result.1.items ≡ self.rows }
     {

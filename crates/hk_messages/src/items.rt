@@ -4,13 +4,14 @@ ghost use Rattle.std.specs.Prelude.{◌≡◌, ◌≤◌, ◌*◌, ◌++◌, Non
 ghost use Rattle.std.specs.Int.{w32};
 ghost use Rattle.std.specs.List.{flat_map, AllByRecursion};
 ghost use Rattle.hk_frames.specs.Fields.{GivesValue, GivesOrRunsOut, number};
-ghost use Rattle.hk_codec.specs.Frames.{frame_text};
+ghost use Rattle.hk_frames.specs.Framing.{frame_seen, seen_with_len};
+ghost use Rattle.hk_codec.specs.Frames.{frame_text, item_format};
 ghost use Rattle.hk_codec.specs.Encoding.{IsWritten};
 ghost use Rattle.hk_messages.specs.Requests as spec;
 
 use hk_codec::{ItemFormat, frame_len, put_frame};
 use hk_frames::{Cursor, ReadError, next_frame, put_u32};
-use hk_log::Item;
+use hk_log::{Item, Spare};
 use hk_types::FormFault;
 use std::alloc::{AllocError, Global};
 
@@ -20,12 +21,20 @@ pub(crate) const MOST_ITEMS: usize = 65_536;
 /// The bytes of the shortest item frame: a mark's.
 const LEAST_FRAME_BYTES: usize = 32;
 
+/// The item of the first frame of the bytes, and how many bytes the frame has.
+fn next_item(alloc: Global, bytes: &[u8]) -> Result<Option<(Item, usize)>, ReadError>
+    ensures { GivesOrRunsOut (seen_with_len item_format.seen) result (frame_seen item_format bytes.now) }
+{
+    let mut spare = Spare::default();
+    next_frame::<ItemFormat>(alloc, bytes, &mut spare)
+}
+
 /// Reads an item frame.
 #[tactic(auto, unfolding(crate::specs::Requests::plain_frame_at))]
 fn read_item_frame(alloc: Global, cursor: &mut Cursor) -> Result<Item, ReadError>
     ensures { GivesOrRunsOut (λ x. (x, cursor.new)) result (spec.plain_frame_at cursor.old) }
 {
-    match next_frame::<ItemFormat>(alloc, cursor.rest())? {
+    match next_item(alloc, cursor.rest())? {
         None => Err(ReadError::Fault(FormFault::WrongLength)),
         Some((item, len)) => match cursor.bytes(len) {
             Ok(_frame) => Ok(item),

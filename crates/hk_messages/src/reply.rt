@@ -100,6 +100,8 @@ impl Format for ReplyFormat {
 
     type Value = Reply;
 
+    type Spare = ();
+
     ghost LEAST_BYTES = { 2 };
 
     ghost MOST_BYTES = { 268435456 };
@@ -112,7 +114,7 @@ impl Format for ReplyFormat {
 
     const MOST_BYTES: usize = 268_435_456;
 
-    fn read_rest(alloc: Global, rest: &[u8]) -> Result<Reply, ReadError> {
+    fn read_rest(alloc: Global, rest: &[u8], _spare: &mut ()) -> Result<Reply, ReadError> {
         read_reply(alloc, rest)
     }
 

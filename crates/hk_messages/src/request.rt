@@ -133,6 +133,8 @@ impl<const LATEST: u8> Format for RequestFormat<LATEST> {
 
     type Value = Request;
 
+    type Spare = ();
+
     ghost LEAST_BYTES = { 2 };
 
     ghost MOST_BYTES = { 268435456 };
@@ -145,7 +147,7 @@ impl<const LATEST: u8> Format for RequestFormat<LATEST> {
 
     const MOST_BYTES: usize = 268_435_456;
 
-    fn read_rest(alloc: Global, rest: &[u8]) -> Result<Request, ReadError> {
+    fn read_rest(alloc: Global, rest: &[u8], _spare: &mut ()) -> Result<Request, ReadError> {
         read_request(alloc, rest, LATEST)
     }
 

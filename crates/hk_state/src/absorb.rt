@@ -14,7 +14,7 @@ ghost use Rattle.hk_store.specs.Undos.{rolled_back};
 ghost use Rattle.hk_store.specs.Reads.{facts_of_content};
 
 use crate::replica::ReplicaState;
-use hk_log::{Entry, Item, Mark};
+use hk_log::{Entry, Item, Mark, Spare};
 use hk_marks::Got;
 use hk_model::Took;
 use hk_store::{Facts, Undo};
@@ -46,6 +46,7 @@ fn take_noted(
     got: &mut Got,
     undo: &mut Undo,
     entry: Entry,
+    spare: &mut Spare,
 ) -> Result<(), Refusal>
     requires { entry.stream ≤ length got.old }
     ensures facts { OnOk result (facts.new ≡ with_entry facts.old entry) }
@@ -57,13 +58,18 @@ fn take_noted(
 {
     let stream = entry.stream();
     let number = entry.number();
-    facts.put_writes(undo, entry)?;
+    facts.put_writes(undo, entry, spare)?;
     got.add_number(stream, number)
 }
 
 /// Adds an entry's rows, ends and number, or nothing of it: `Conflict` where it conflicts with what is known, and
-/// else `Memory`. Its bodies are moved.
-fn take_entry(facts: &mut Facts, got: &mut Got, entry: Entry) -> Result<Took, Refusal>
+/// else `Memory`. Its bodies are moved, and its lists go to `spare`.
+fn take_entry(
+    facts: &mut Facts,
+    got: &mut Got,
+    entry: Entry,
+    spare: &mut Spare,
+) -> Result<Took, Refusal>
     requires { entry.stream ≤ length got.old }
     ensures told { IfOk result (λ took. took ≡ Taken) }
     ensures facts { OnOk result (facts.new ≡ with_entry facts.old entry) }
@@ -74,7 +80,7 @@ fn take_entry(facts: &mut Facts, got: &mut Got, entry: Entry) -> Result<Took, Re
     ensures same_got { OnErr result (got.new ≡ got.old) }
 {
     let mut undo = facts.begin_undo();
-    if let Err(why) = take_noted(facts, got, &mut undo, entry) {
+    if let Err(why) = take_noted(facts, got, &mut undo, entry, spare) {
         facts.take_back(undo);
         return Err(why);
     }
@@ -151,18 +157,19 @@ impl ReplicaState {
         let Ok(copied) = entry.copy(self.alloc) else {
             return Err(self.refusal_without_memory(entry));
         };
-        take_entry(&mut self.facts, &mut self.got, copied)
+        let mut spare = Spare::default();
+        take_entry(&mut self.facts, &mut self.got, copied, &mut spare)
     }
 
     /// Absorbs an entry of the log, whose bodies it moves.
-    fn absorb_own_entry(&mut self, entry: Entry) -> Result<Took, Refusal>
+    fn absorb_own_entry(&mut self, entry: Entry, spare: &mut Spare) -> Result<Took, Refusal>
         requires { spec.wrong_log self.old.log (length self.old.streams) (Commit entry) ≡ None }
         ensures { Absorbs self.old self.new (Commit entry) result }
     {
         if let Some(outcome) = self.outcome_at_once(&entry) {
             return outcome;
         }
-        take_entry(&mut self.facts, &mut self.got, entry)
+        take_entry(&mut self.facts, &mut self.got, entry, spare)
     }
 
     /// Absorbs a mark of the log.
@@ -199,9 +206,10 @@ impl ReplicaState {
         }
     }
 
-    /// Absorbs an item as `absorb` does, and moves its bodies, so that none is copied. The item is dropped where it
-    /// is refused or repeated. Cost: that of `absorb`, with b the bytes of bodies compared.
-    pub fn absorb_owned(&mut self, item: Item) -> Result<Took, Refusal>
+    /// Absorbs an item as `absorb` does, and moves its bodies, so that none is copied. The lists of an entry that was
+    /// taken are given to `spare`; an item that is refused or repeated is dropped. Cost: that of `absorb`, with b the bytes
+    /// of bodies compared.
+    pub fn absorb_owned(&mut self, item: Item, spare: &mut Spare) -> Result<Took, Refusal>
         ensures gives { Absorbs self.old self.new item result }
         ensures represents { AbsorbsOf self.old self.new item result }
         ensures stays { AnswersStay self.old self.new }
@@ -210,7 +218,7 @@ impl ReplicaState {
             return Err(why);
         }
         match item {
-            Item::Commit(entry) => self.absorb_own_entry(entry),
+            Item::Commit(entry) => self.absorb_own_entry(entry, spare),
             Item::Closed(mark) => self.absorb_mark(&mark),
         }
     }

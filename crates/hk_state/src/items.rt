@@ -11,7 +11,7 @@ ghost use Rattle.hk_store.specs.Undos.{rolled_back};
 ghost use Rattle.hk_store.specs.Reads.{facts_of_content};
 
 use crate::replica::ReplicaState;
-use hk_log::Item;
+use hk_log::{Item, Spare};
 use hk_marks::Got;
 use hk_store::{Facts, Undo};
 use hk_types::{Config, Refusal};
@@ -76,7 +76,7 @@ fn put_item(alloc: Global, facts: &mut Facts, undo: &mut Undo, item: &Item) -> R
     match item {
         Item::Commit(entry) => {
             let copied = entry.copy(alloc)?;
-            facts.put_writes(undo, copied)
+            facts.put_writes(undo, copied, &mut Spare::default())
         }
         Item::Closed(_) => Ok(()),
     }

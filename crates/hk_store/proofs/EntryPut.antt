@@ -1,7 +1,7 @@
 -- The writes of an entry are put in one after the other, and each is compared with what was known before.
-use Rattle.std.proofs.Common.{◌≡◌, refl, sym, ap, ◌∙◌, ℕ, Bool, true, false, cond, ◌||◌, ◌==◌, ◌+◌, ◌<◌, T, Option, Some, None, Result, Ok, Err, IfErr, List, [], ◌∷◌, ◌++◌, map, take, drop, length, get_or, is_lt}
+use Rattle.std.proofs.Common.{◌≡◌, refl, sym, ap, ◌∙◌, append_assoc, append-nil, arith, ℕ, Bool, true, false, cond, ◌||◌, ◌==◌, ◌+◌, ◌-◌, ◌<◌, T, Option, Some, None, Result, Ok, Err, IfErr, List, [], ◌∷◌, ◌++◌, map, take, drop, length, get_or, is_lt}
 use Rattle.std.proofs.lemmas.Bool.{OnTrue_at}
-use Rattle.std.proofs.lemmas.List.{take-append-drop, drop_more, take_more, map-append}
+use Rattle.std.proofs.lemmas.List.{take-append-drop, drop_more, take_more, map-append, length-drop, nil_from_length}
 use Rattle.std.proofs.lemmas.List.Folds.{list_any-append}
 use Rattle.std.specs.Bool.{OnTrue, OnFalse}
 use Rattle.std.specs.List.{list_any}
@@ -71,6 +71,16 @@ walked xs i x is below = sym (take-append-drop i xs) ∙ ap (λ l. take i xs ++ 
 
 pub walked_more : {A : Type 0} (xs : List A) (i : ℕ) (x : A) → x ≡ get_or xs i x → i < length xs → take (i + 1) xs ≡ take i xs ++ x ∷ []
 walked_more xs i x is below = take_more xs i x below ∙ ap (λ y. take i xs ++ y ∷ []) (sym is)
+
+-- one more was moved out of a list
+pub one_moved : {A : Type 0} {whole : List A} (xs ys : List A) (x : A) → whole ≡ xs ++ x ∷ ys → whole ≡ (xs ++ x ∷ []) ++ ys
+one_moved xs ys x is = is ∙ sym (append_assoc xs (x ∷ []) ys)
+
+-- where none is left, all were moved out
+pub all_moved : {A : Type 0} {whole : List A} (xs ys : List A) → whole ≡ xs ++ ys → ys ≡ drop 1 ys → xs ≡ whole
+all_moved xs ys is none =
+    let n : length ys ≡ length ys - 1 = ap length none ∙ length-drop 1 ys in
+    sym (is ∙ ap (λ zs. xs ++ zs) (nil_from_length ys (omega (arith, n))) ∙ append-nil xs)
 
 -- ---- a test that passes nowhere before
 

@@ -13,8 +13,9 @@ ghost use Rattle.hk_store.specs.Undos.{rows_conflict, ends_conflict, rolled_back
 use crate::facts::Facts;
 use crate::undo::Undo;
 use hk_facts::Fact;
-use hk_log::Entry;
+use hk_log::{Entry, Spare};
 use hk_types::{Key, Refusal, Row, Table, Time, VersionKey};
+use std::collections::VecDeque;
 
 impl Facts {
     /// Adds all rows and ends of an entry, where none are known. The only refusal is `Memory`, and it
@@ -79,10 +80,15 @@ impl Facts {
 
     /// Adds the rows and ends of an entry, each that is new noted. An entry that has another row, or
     /// another end, of a version than is known is refused `Conflict`, and any other only for `Memory`; what was added
-    /// until then is kept, and is noted. Cost: O(w · log n + b), w writes, n facts, b bytes of bodies
-    /// that are compared: those that are new are moved.
+    /// until then is kept, and is noted. The lists of an entry that was added are given to `spare`. Cost: O(w · log n + b),
+    /// w writes, n facts, b bytes of bodies that are compared: those that are new are moved.
     #[inline(always)]
-    pub fn put_writes(&mut self, undo: &mut Undo, entry: Entry) -> Result<(), Refusal>
+    pub fn put_writes(
+        &mut self,
+        undo: &mut Undo,
+        entry: Entry,
+        spare: &mut Spare,
+    ) -> Result<(), Refusal>
         ensures ok { OnOk result (self.new ≡ with_entry self.old entry) }
         ensures agrees { OnOk result (conflicts_with_entry self.old entry ≡ false) }
         ensures err { IfErr result (λ why.
@@ -92,10 +98,12 @@ impl Facts {
         let _known = entry.rows();
         let time = entry.time();
         let (ends, rows) = entry.into_writes();
-        let room = self.put_rows(undo, rows, time)?;
+        let mut rows = VecDeque::from_vec(rows);
+        let room = self.put_rows(undo, &mut rows, time)?;
         if !self.put_ends(undo, &ends, time, room)? {
             return Err(Refusal::Memory);
         }
+        spare.give((ends, rows.into_vec()));
         Ok(())
     }
 
@@ -104,18 +112,18 @@ impl Facts {
     fn put_rows(
         &mut self,
         undo: &mut Undo,
-        rows: Vec<(Table, Key, Row)>,
+        rows: &mut VecDeque<(Table, Key, Row)>,
         time: Time,
     ) -> Result<bool, Refusal>
-        requires { rise (map row_place rows.items) ≡ true }
-        ensures agrees { OnOk result (rows_conflict self.old time rows.items ≡ false) }
-        ensures err { IfErr result (λ why. (why ≡ Conflict) × (rows_conflict self.old time rows.items ≡ true)) }
-        ensures put { IfOk result (λ is. OnTrue is (self.new.rows ≡ union self.old.rows (entry_rows time rows.items))) }
+        requires { rise (map row_place rows.old.items) ≡ true }
+        ensures agrees { OnOk result (rows_conflict self.old time rows.old.items ≡ false) }
+        ensures err { IfErr result (λ why. (why ≡ Conflict) × (rows_conflict self.old time rows.old.items ≡ true)) }
+        ensures put { IfOk result (λ is. OnTrue is (self.new.rows ≡ union self.old.rows (entry_rows time rows.old.items))) }
         ensures ends { self.new.ends ≡ self.old.ends }
         ensures back { rolled_back undo.new self.new ≡ rolled_back undo.old self.old }
     {
         let mut room = true;
-        for (table, key, row) in rows {
+        while let Some((table, key, row)) = rows.pop_front() {
             let version = VersionKey {
                 table,
                 key,

@@ -12,7 +12,7 @@ loop-part-init g c = (search rules, tt, [], search rules, goes_nowhere g.S.Item.
 
 pub loop-part-preserved : goal.loop-part-preserved
 loop-part-preserved g c =
-    let f = c.feed-fed in
+    let f = c.feed_with-fed in
     let inv = c.loop-part.invariant in
     let part = c.in-Some.part.now in
     let cut = c.in-Some.ensures.steps.1.0 in (
@@ -27,7 +27,7 @@ loop-part-preserved g c =
 
 pub returns-in_err-take_all-clause-err : goal.returns-in_err-take_all-clause-err
 returns-in_err-take_all-clause-err g c =
-    let f = c.feed-fed in
+    let f = c.feed_with-fed in
     let inv = c.loop-part.invariant in
     let part = c.in-Some.part.now in
     let cut = c.in-Some.ensures.steps.1.0 in
@@ -39,7 +39,7 @@ returns-in_err-take_all-clause-err g c =
 
 pub returns-in_err-checked-clause-err : goal.returns-in_err-checked-clause-err
 returns-in_err-checked-clause-err g c =
-    let f = c.feed-fed in
+    let f = c.feed_with-fed in
     let inv = c.loop-part.invariant in
     let part = c.in-Some.part.now in
     let cut = c.in-Some.ensures.steps.1.0 in

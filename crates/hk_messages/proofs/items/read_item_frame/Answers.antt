@@ -9,4 +9,4 @@ same x = (x.0, x.1)
 
 pub returns-in-Err : goal.returns-in-Err
 returns-in-Err c =
-    frame_fails c.args.cursor.now (option_map same c.in_ok-next_frame.field-0) c.in-Some.item c.in-Some.len c.in-Err.fault (rw c.rest.ensures at c.in_ok-next_frame.ensures) (ap (option_map same) c.in-Some.is) c.in-Err.ensures.read
+    frame_fails c.args.cursor.now (option_map same c.in_ok-next_item.field-0) c.in-Some.item c.in-Some.len c.in-Err.fault (rw c.rest.ensures at c.in_ok-next_item.ensures) (ap (option_map same) c.in-Some.is) c.in-Err.ensures.read
