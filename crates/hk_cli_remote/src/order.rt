@@ -158,7 +158,7 @@ fn written<W: Write, E: Write>(
 /// for up to ten seconds.
 /// `Status` reads a delta since the resolved time, and is refused as too old where the node is pruned between; for the node's numbers and
 /// tables it asks by requests of version 2, and where a node doesn't know these (3, 4) `errors` says so, behind what was printed. `Save` and `Pull` send
-/// chunks of up to 8,388,608 bytes, or of one fact, where a node refuses a single message as too long and both nodes read version 2; else
+/// chunks of up to 8,388,608 bytes, or of one fact, where a node refuses a single message as too long, `Pull` also for want of room, and both nodes read version 2; else
 /// they end with 2, as it was refused. Of what goes in chunks nothing is joined before all is there. `Pull`, `Prune` and `Feed` print
 /// `done` and the number of the node's last operation; `Feed` ends at the first batch that is refused, and prints to `errors` how many
 /// items a second went, and by requests of version 2 how many of them the node didn't know.

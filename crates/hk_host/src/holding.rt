@@ -5,7 +5,7 @@ ghost use mathlib.Core.List.{IsPrefix};
 ghost use Rattle.hk_oplog.specs.Replay.{is_legal};
 ghost use Rattle.hk_host.specs.Pins.{ReleasesHold, TakesHold};
 
-use crate::link_events::{LinkEvent, Teller};
+use crate::link_events::Teller;
 use crate::seat_host::SeatHost;
 use hk_node::{Hold, Node, NodeName};
 use hk_types::{Refusal, Time};
@@ -21,7 +21,7 @@ pub(crate) fn tell_changed<R: Wait>(rt: &R, teller: Option<&Teller<'_>>, ops: u6
 /// Reports that a change was refused, if there is a teller.
 pub(crate) fn tell_refused<R: Wait>(rt: &R, teller: Option<&Teller<'_>>, why: &Refusal) {
     if let Some(teller) = teller {
-        teller.tell(rt, LinkEvent::Refused(why.number()));
+        teller.tell_refused(rt, why.number());
     }
 }
 

@@ -6,6 +6,7 @@ use hk_session::Ended;
 use std::alloc::AllocError;
 use std::net::SocketAddr;
 use std::sync::Wait;
+use std::sync::atomic::{AtomicBool, Ordering};
 
 /// How many events may wait for the watcher; a connection whose event finds no room waits with it.
 pub const EVENTS: usize = 1_024;
@@ -42,6 +43,8 @@ pub struct Teller<'a> {
     events: Sender<(usize, LinkEvent)>,
     /// Who waits until a time is readable.
     bell: &'a Bell,
+    /// Whether a change was asked for since that was asked last.
+    has_changes: AtomicBool,
 }
 
 impl<'a> Teller<'a> {
@@ -56,6 +59,7 @@ impl<'a> Teller<'a> {
             tells_changes: false,
             events,
             bell,
+            has_changes: AtomicBool::new(false),
         })
     }
 
@@ -63,6 +67,16 @@ impl<'a> Teller<'a> {
     pub fn turn_to(&mut self, place: usize, tells_changes: bool) {
         self.place = place;
         self.tells_changes = tells_changes;
+    }
+
+    /// Notes that a change was asked for, whatever came of it: it may have published one that waited.
+    pub(crate) fn note_change(&self) {
+        self.has_changes.store(true, Ordering::SeqCst);
+    }
+
+    /// Whether a change was asked for since this was asked last. Then a time may be readable for which somebody waits.
+    pub fn take_change(&self) -> bool {
+        self.has_changes.swap(false, Ordering::SeqCst)
     }
 
     /// What wakes those who wait until a time is readable.
@@ -76,8 +90,15 @@ impl<'a> Teller<'a> {
         let _sent = self.events.send(rt, (self.place, event));
     }
 
+    /// Reports that a change was refused with this number.
+    pub(crate) fn tell_refused<R: Wait>(&self, rt: &R, number: u8) {
+        self.note_change();
+        self.tell(rt, LinkEvent::Refused(number));
+    }
+
     /// Reports that a change took effect, where that is wanted.
     pub fn tell_changed<R: Wait>(&self, rt: &R, ops: u64) {
+        self.note_change();
         if self.tells_changes {
             self.tell(rt, LinkEvent::Changed(ops));
         }

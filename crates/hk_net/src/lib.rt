@@ -13,6 +13,7 @@ mod link_session;
 mod links;
 mod places;
 mod reactor;
+mod rest;
 mod serving;
 mod shop;
 mod sockets;

@@ -18,6 +18,9 @@ use std::rt::Clock;
 use std::sync::Wait;
 use std::thread::Threads;
 
+/// For how many milliseconds connections that had a turn have further ones before the system is asked what happened to others.
+const FURTHER_TURNS: u64 = 2;
+
 /// The turn of a connection that may do everything.
 fn turn_open<'a, 'd, J: NodeName, N: Wait + Drop, R: Threads + Wait + Sync>(
     rt: &'a R,
@@ -160,7 +163,10 @@ impl<'w, 'd, J: NodeName + 'w, N: Wait + Drop + 'w, R: Threads + Wait + Clock + 
         let moment = self.reactor.moment(door.way.passes());
         self.reactor.teller.turn_to(link.place, door.tells_changes);
         let seen = seat.seen();
-        let (turn, seat) = self.turn_on(door, moment, link, seat);
+        let (turn, mut seat) = self.turn_on(door, moment, link, seat);
+        if self.reactor.teller.take_change() {
+            self.reactor.teller.bell().ring_marks(&mut seat);
+        }
         if seen < seat.seen() {
             self.reactor.note_change(moment, link.door);
         }
@@ -177,7 +183,24 @@ impl<'w, 'd, J: NodeName + 'w, N: Wait + Drop + 'w, R: Threads + Wait + Clock + 
         self.settle(token, turn, link);
     }
 
-    /// Gives each connection that is listed its turn, and then writes their replies: a peer that has several connections is woken once.
+    /// Gives those that had a turn and have more to do a further one, in their order, until so many milliseconds are over.
+    fn take_further_turns(&mut self) {
+        let until = self.reactor.worker.now.saturating_add(FURTHER_TURNS);
+        for _ in 0..self.reactor.worker.links.count_again() {
+            let Some(token) = self.reactor.worker.links.take_again() else {
+                return;
+            };
+            self.serve(token);
+            self.reactor.look_at_clock();
+            if self.reactor.worker.now >= until {
+                return;
+            }
+        }
+    }
+
+    /// Gives each connection to which something happened its turn, and some that have more to do a further one; and then writes their
+    /// replies: a peer that has several connections is woken once. So who sends much at once holds up others by a request or some, and
+    /// who asks for one thing after the other isn't held up by all of it.
     fn take_turns(&mut self) {
         self.reactor.worker.has_freed = false;
         let count = self.reactor.worker.links.begin_round();
@@ -186,8 +209,9 @@ impl<'w, 'd, J: NodeName + 'w, N: Wait + Drop + 'w, R: Threads + Wait + Clock + 
                 self.serve(token);
             }
         }
+        self.take_further_turns();
         let staff = &self.shop.staff;
-        self.reactor.worker.end_round(count, &staff.limits);
+        self.reactor.worker.end_round(&staff.limits);
         let least = self.reactor.worker.waiting.least_number();
         staff.bell.expect(self.reactor.worker.number, least);
     }
