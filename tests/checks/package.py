@@ -194,7 +194,7 @@ def unit(root):
 
     def command(name, field):
         line = re.search(rf"^{field}=-?(.*)$", of_units[name], re.M)[1]
-        return line.replace("%i", port).replace("%S", "")
+        return line.replace("%i", port).replace("%S", "").replace("$$", "$")
 
     settings = command(UNITS[0], "EnvironmentFile")
     start = f". {settings}; {command(UNITS[0], 'ExecStart')} > /dev/null & node=$!\n{command(UNITS[0], 'ExecStartPost')} > /dev/null\n"
