@@ -32,7 +32,7 @@ REASONS: Dict[int, Reason] = {
     4: _of(
         "BadKind",
         "the kind byte has no meaning there",
-        "fix the sender: items have kind 1 or 2, requests 16 to 23 or 48 to 59, replies 32 to 36 or 64 to 74",
+        "fix the sender: items have kind 1 or 2, requests 16 to 23 or 48 to 61, replies 32 to 36 or 64 to 76",
     ),
     5: _of("BadStream", "a stream number or count outside 1 to 64", "fix the sender: a log has 1 to 64 streams"),
     6: _of(

@@ -74,7 +74,7 @@ fn fault(number: u8) -> Option<Known> {
         4 => told(
             "BadKind",
             "the kind byte has no meaning there",
-            "fix the sender: items have kind 1 or 2, requests 16 to 23 or 48 to 59, replies 32 to 36 or 64 to 74",
+            "fix the sender: items have kind 1 or 2, requests 16 to 23 or 48 to 61, replies 32 to 36 or 64 to 76",
         ),
         5 => told(
             "BadStream",
