@@ -24,11 +24,8 @@ use std::sync::Wait;
 use std::thread::Threads;
 use std::{fs, io, mem};
 
-/// How long another node is waited for: it is tried once, and may let a request wait for half a minute.
-const LIMITS: Limits = Limits {
-    connect_seconds: 0,
-    reply_seconds: 30,
-};
+/// For how many seconds another node may let a request wait.
+const REPLY_SECONDS: u64 = 30;
 
 /// The refusal of a request that gives no snapshot.
 const BAD_KIND: Refusal = Refusal::Form(FormFault::BadKind);
@@ -201,17 +198,26 @@ impl<J: NodeName, N: Wait + Drop, R: Threads + Wait + Sync> Host for Own<'_, '_,
 enum Source<'a> {
     /// What `save` wrote into the file of this name.
     File(&'a str),
-    /// What the node at a place has above what this one has.
-    Node(NodePlace<'a>),
+    /// What the node at a place has above what this one has; its replies have to come by so many bytes a second.
+    Node(NodePlace<'a>, u64),
+}
+
+/// How long another node is waited for: it is tried once.
+fn limits_of(read_rate: u64) -> Limits {
+    Limits {
+        connect_seconds: 0,
+        reply_seconds: REPLY_SECONDS,
+        read_rate,
+    }
 }
 
 /// What it is called in lines.
 fn name_of(alloc: Global, source: Source<'_>) -> Result<String, AllocError> {
     match source {
         Source::File(name) => format!(in alloc; "load {name}: "),
-        Source::Node(NodePlace::Port(port)) => format!(in alloc; "from 127.0.0.1:{port}: "),
-        Source::Node(NodePlace::Address(address)) => format!(in alloc; "from {address}: "),
-        Source::Node(NodePlace::Path(path)) => format!(in alloc; "from unix:{path}: "),
+        Source::Node(NodePlace::Port(port), _) => format!(in alloc; "from 127.0.0.1:{port}: "),
+        Source::Node(NodePlace::Address(address), _) => format!(in alloc; "from {address}: "),
+        Source::Node(NodePlace::Path(path), _) => format!(in alloc; "from unix:{path}: "),
     }
 }
 
@@ -234,13 +240,14 @@ fn show(alloc: Global, front: Front, words: &mut Vec<u8>) {
 fn is_fetched<R: Net<Listener = TcpListener, Stream = TcpStream> + Clock + Alloc<A = Global>>(
     rt: &R,
     place: NodePlace<'_>,
+    rate: u64,
     base: Time,
     frames: &mut Vec<u8>,
     words: &mut Vec<u8>,
 ) -> bool {
     let alloc = rt.alloc();
     let mut output = Output::of_form(alloc, OutputForm::Bytes, frames, words);
-    match fetch_from(rt, alloc, place, LIMITS, base, &mut output) {
+    match fetch_from(rt, alloc, place, limits_of(rate), base, &mut output) {
         Ok(()) => output.flush().is_ok(),
         Err(stop) => {
             let _status = output.stop(stop);
@@ -253,6 +260,7 @@ fn is_fetched<R: Net<Listener = TcpListener, Stream = TcpStream> + Clock + Alloc
 fn take_node<J: NodeName, N: Wait + Drop, R>(
     rt: &R,
     place: NodePlace<'_>,
+    rate: u64,
     own: &mut Own<'_, '_, J, N, R>,
     words: &mut Vec<u8>,
 ) -> Result<bool, Stop>
@@ -262,7 +270,7 @@ where
 {
     let front = own.front()?;
     let mut frames = Vec::new(rt.alloc());
-    if !is_fetched(rt, place, front.readable, &mut frames, words) {
+    if !is_fetched(rt, place, rate, front.readable, &mut frames, words) {
         return Ok(false);
     }
     own.take_input(rt.alloc(), frames.as_slice())?;
@@ -307,7 +315,7 @@ where
 {
     let is_taken = match source {
         Source::File(name) => take_file(rt, name, own, words)?,
-        Source::Node(place) => take_node(rt, place, own, words)?,
+        Source::Node(place, rate) => take_node(rt, place, rate, own, words)?,
     };
     if is_taken {
         let front = own.front()?;
@@ -405,7 +413,7 @@ where
 fn taken_of_first<J: NodeName, N: Wait + Drop, R, W: Write, E: Write>(
     rt: &R,
     heads: &Heads<'_, R>,
-    sources: &[Option<NodePlace<'_>>],
+    start: &Start<'_>,
     node: &Node<J, N>,
     seat: &mut Option<ReaderSeat<J>>,
     output: &mut Output<'_, W, E>,
@@ -414,9 +422,10 @@ where
     R: Net<Listener = TcpListener, Stream = TcpStream> + Clock + Files + Alloc<A = Global>,
     R: Threads + Wait + Sync,
 {
-    for place in sources {
+    for place in &start.sources {
         if let Some(place) = place {
-            if taken_and_told(rt, heads, Source::Node(*place), node, seat, output) {
+            let source = Source::Node(*place, start.read_rate);
+            if taken_and_told(rt, heads, source, node, seat, output) {
                 return true;
             }
         }
@@ -444,6 +453,6 @@ where
         Some(name) => taken_and_told(rt, heads, Source::File(name), node, seat, output),
         None => false,
     };
-    let has_node = taken_of_first(rt, heads, &start.sources, node, seat, output);
+    let has_node = taken_of_first(rt, heads, start, node, seat, output);
     has_file || has_node
 }

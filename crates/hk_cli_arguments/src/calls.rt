@@ -86,6 +86,7 @@ fn limits_of(matches: &ArgMatches<'_>, reply: u64) -> Limits {
     Limits {
         connect_seconds: connect_seconds.unwrap_or(CONNECT_SECONDS),
         reply_seconds: reply_seconds.unwrap_or(reply),
+        read_rate: 0,
     }
 }
 

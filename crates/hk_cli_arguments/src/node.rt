@@ -110,6 +110,7 @@ fn start_of<'a>(matches: &ArgMatches<'a>) -> Start<'a> {
         file: matches.get_str("load"),
         sources: sources_of(matches).places,
         needs_data: has_flag(matches, "need-data"),
+        read_rate: read_rate_of(matches, READ_RATE),
     }
 }
 

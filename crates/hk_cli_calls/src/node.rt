@@ -92,10 +92,13 @@ impl Order {
 /// How long a command waits for a node.
 #[derive(Clone, Copy)]
 pub struct Limits {
-    /// For how many seconds it tries again to connect where nobody listens; 0: it tries once.
+    /// For how many seconds it tries again to connect where nobody listens, and waits for an address that doesn't answer; 0: it tries
+    /// once, and waits for three.
     pub connect_seconds: u64,
     /// For how many seconds it waits until a byte of a reply comes, or one of a request goes; 0: without a limit.
     pub reply_seconds: u64,
+    /// How many bytes a second have to have come of a reply that isn't complete 30 seconds after it began; 0: without a limit.
+    pub read_rate: u64,
 }
 
 /// What the node at a place is asked to do.

@@ -44,6 +44,8 @@ pub struct Start<'a> {
     pub sources: [Option<NodePlace<'a>>; MOST_SOURCES],
     /// Whether the program ends where neither can be had.
     pub needs_data: bool,
+    /// How many bytes a second have to have come of another node's reply that isn't complete 30 seconds after it began; 0 is no limit.
+    pub read_rate: u64,
 }
 
 /// How a long-running node serves its connections.

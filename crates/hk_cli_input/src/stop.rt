@@ -27,6 +27,8 @@ pub enum LinkFault {
     Cut,
     /// No byte came, or none was taken, for so many seconds.
     Late(u64),
+    /// Its reply brought fewer than so many bytes a second, for half a minute and more.
+    Slow(u64),
     /// What answers is no node; as a reply it has this fault.
     NoNode(Peer, Refusal),
     /// The node has another log than what it was sent, as far as the two are known.

@@ -42,9 +42,11 @@ fn is_accepted(accepted: Accepted, request: &Request) -> bool {
     matches!(accepted, Accepted::All) || is_fragment(request)
 }
 
-/// Prints why a reply refuses its request, and returns whether it does. It stops at a chunk that is refused.
+/// Prints why a reply refuses its request, and returns whether it does. It stops at a chunk that is refused. Where fragments alone are sent
+/// the node is asked which log it has, if it has another.
 fn is_refused<W: Write, E: Write>(
     link: &mut Link,
+    accepted: Accepted,
     request: &Request,
     reply: &Reply,
     output: &mut Output<'_, W, E>,
@@ -55,7 +57,7 @@ fn is_refused<W: Write, E: Write>(
     if is_part(request) {
         return Err(Stop::RefusedAt(why, link.origin(RequestContext::Nothing)));
     }
-    if is_fragment(request) {
+    if matches!(accepted, Accepted::Fragments) {
         output.tell_stop(&link.refused(request, why));
     } else {
         output.tell(link.origin(asked_of(request)), &why);
@@ -66,11 +68,12 @@ fn is_refused<W: Write, E: Write>(
 /// Prints a reply to a request, writes what was printed, and returns whether the reply is a refusal.
 fn show<W: Write, E: Write>(
     link: &mut Link,
+    accepted: Accepted,
     request: &Request,
     reply: &Reply,
     output: &mut Output<'_, W, E>,
 ) -> Result<bool, Stop> {
-    let is_refused = is_refused(link, request, reply, output)?;
+    let is_refused = is_refused(link, accepted, request, reply, output)?;
     output.print(reply)?;
     output.flush()?;
     Ok(is_refused)
@@ -79,11 +82,12 @@ fn show<W: Write, E: Write>(
 /// Sends a request, waits for its reply and prints it, and returns whether that is a refusal.
 fn asked<W: Write, E: Write>(
     link: &mut Link,
+    accepted: Accepted,
     request: &Request,
     output: &mut Output<'_, W, E>,
 ) -> Result<bool, Stop> {
     let reply = link.ask(request)?;
-    show(link, request, &reply, output)
+    show(link, accepted, request, &reply, output)
 }
 
 /// Requests up to a version, on their way to a node.
@@ -126,7 +130,7 @@ impl<'k, 'o, 'p, W: Write, E: Write, const LATEST: u8> Pusher<'k, 'o, 'p, W, E, 
                 let origin = self.link.next_origin(RequestContext::Nothing);
                 return Err(Stop::RefusedAt(BAD_KIND, origin));
             }
-            if asked(self.link, request, self.output)? {
+            if asked(self.link, self.accepted, request, self.output)? {
                 self.is_refused = true;
             }
         }
