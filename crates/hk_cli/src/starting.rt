@@ -3,7 +3,7 @@
 ghost use Rattle.std.specs.Prelude.{⊤};
 ghost use Rattle.std.specs.Thread.{IsSync};
 
-use crate::head::{Grade, Heads};
+use crate::head::{Grade, Heads, tell_source};
 use hk_cli_calls::{Limits, NodePlace, OutputForm, Start};
 use hk_cli_commands::Output;
 use hk_cli_input::Stop;
@@ -211,13 +211,21 @@ fn limits_of(read_rate: u64) -> Limits {
     }
 }
 
+/// How it comes to the node, in a word.
+fn event_of(source: Source<'_>) -> &'static str {
+    match source {
+        Source::File(_) => "load",
+        Source::Node(..) => "from",
+    }
+}
+
 /// What it is called in lines.
 fn name_of(alloc: Global, source: Source<'_>) -> Result<String, AllocError> {
     match source {
-        Source::File(name) => format!(in alloc; "load {name}: "),
-        Source::Node(NodePlace::Port(port), _) => format!(in alloc; "from 127.0.0.1:{port}: "),
-        Source::Node(NodePlace::Address(address), _) => format!(in alloc; "from {address}: "),
-        Source::Node(NodePlace::Path(path), _) => format!(in alloc; "from unix:{path}: "),
+        Source::File(name) => String::from_str(alloc, name),
+        Source::Node(NodePlace::Port(port), _) => format!(in alloc; "127.0.0.1:{port}"),
+        Source::Node(NodePlace::Address(address), _) => String::from_str(alloc, address),
+        Source::Node(NodePlace::Path(path), _) => format!(in alloc; "unix:{path}"),
     }
 }
 
@@ -334,11 +342,9 @@ fn tell_taken<C: Clock, W: Write, E: Write>(
     output: &mut Output<'_, W, E>,
 ) -> Result<(), AllocError> {
     let grade = if is_taken { Grade::Info } else { Grade::Warn };
-    let head = heads.head(grade, None)?;
-    output.note(head.as_str());
     let name = name_of(alloc, source)?;
-    output.note(name.as_str());
-    output.note(str::from_utf8(words).unwrap_or("\n"));
+    let words = str::from_utf8(words).unwrap_or("");
+    tell_source(heads, grade, event_of(source), name.as_str(), words, output);
     Ok(())
 }
 

@@ -20,6 +20,8 @@ pub(crate) enum WordFlaw {
     Sources,
     /// That of `--link-bytes` is no number of bytes and no share of the memory.
     Chunks,
+    /// That of `--log-format` is no form of lines.
+    Format,
     /// That of `--address` is no IP address.
     Listening,
     /// No refusal has this number or name.
@@ -64,6 +66,7 @@ fn words_behind(flaw: WordFlaw) -> &'static str {
         WordFlaw::Chunks => {
             " for '--link-bytes <BYTES>': a number of bytes is wanted, or 1% to 100% of the memory"
         }
+        WordFlaw::Format => " for '--log-format <FORMAT>': text or json is wanted",
         WordFlaw::Listening => {
             " for '--address <A>': an IP address is wanted, as 127.0.0.1, 0.0.0.0 or ::1"
         }

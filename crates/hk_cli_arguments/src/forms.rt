@@ -321,6 +321,7 @@ fn words_of_serving(form: CommandForm) -> &'static [Word] {
             Word::Listening,
             Word::Quiet,
             Word::Verbose,
+            Word::LogFormat,
         ],
         _other => &[],
     }

@@ -93,15 +93,35 @@ fn sources_of<'a>(matches: &ArgMatches<'a>) -> Sources<'a> {
     sources
 }
 
-/// Whether what a node begins with, and what it keeps for snapshots in chunks, is written as these are.
-pub(crate) fn start_checked<'a>(matches: &ArgMatches<'a>) -> Result<(), Flaw<'a>> {
-    if let Some(word) = sources_of(matches).bad {
-        return Err(Flaw::Word(word, WordFlaw::Sources));
+/// Whether the lines on standard error are JSON, where the word that is given for their form is one.
+fn is_json(matches: &ArgMatches<'_>) -> Option<bool> {
+    match matches.get_str("log-format") {
+        None | Some("text") => Some(false),
+        Some("json") => Some(true),
+        _other => None,
+    }
+}
+
+/// Whether the form of the lines, and what a node keeps for snapshots in chunks, is written as these are.
+fn forms_checked<'a>(matches: &ArgMatches<'a>) -> Result<(), Flaw<'a>> {
+    match matches.get_str("log-format") {
+        Some(word) if is_json(matches).is_none() => {
+            return Err(Flaw::Word(word, WordFlaw::Format));
+        }
+        _format => {}
     }
     match matches.get_str("link-bytes") {
         Some(word) if limit_named(word).is_none() => Err(Flaw::Word(word, WordFlaw::Chunks)),
         _limit => stay_checked(matches),
     }
+}
+
+/// Whether what a node begins with, and the forms of its options, are written as these are.
+pub(crate) fn start_checked<'a>(matches: &ArgMatches<'a>) -> Result<(), Flaw<'a>> {
+    if let Some(word) = sources_of(matches).bad {
+        return Err(Flaw::Word(word, WordFlaw::Sources));
+    }
+    forms_checked(matches)
 }
 
 /// What it begins with.
@@ -134,6 +154,7 @@ pub(crate) fn node_call<'a>(matches: &ArgMatches<'a>) -> Option<Call<'a>> {
         parts: limit_of(matches),
         level: level_of(matches),
         report_changes: report_changes_of(matches),
+        in_json: is_json(matches).unwrap_or(false),
         start: Some(start_of(matches)),
     };
     Some(Call::Stay(config_of(matches)?, stay))

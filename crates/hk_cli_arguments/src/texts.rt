@@ -249,7 +249,8 @@ standard error says what came of it; where neither can be had it begins empty, o
 
 Standard output has one line, of what it opened. Standard error has a line for each connection that opens or ends, and for each change \
 that is refused: the time in UTC, info, warn or error, the peer's address, and what happened. No connection waits where nobody reads \
-these lines: what finds no room is dropped, and counted.
+these lines: what finds no room is dropped, and counted. Of one kind of line and one port at most 10 are printed in a second, and then \
+how many more there were. With --log-format json each line is an object (docs/FORMATS.md).
 
 NOTHING IS ENCRYPTED OR AUTHENTICATED: whoever reaches the port may write (docs/SECURITY.md).";
 

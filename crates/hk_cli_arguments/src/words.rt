@@ -33,6 +33,7 @@ pub(crate) enum Word {
     Listening,
     Quiet,
     Verbose,
+    LogFormat,
 }
 
 /// The name that an option of a node that is started is read back by.
@@ -48,6 +49,7 @@ fn name_of_serving(word: Word) -> &'static str {
         Word::PartsBytes => "link-bytes",
         Word::Socket | Word::StaySocket => "socket",
         Word::ReadSocket | Word::StayReadSocket => "read-socket",
+        Word::LogFormat => "log-format",
         _listening => "address",
     }
 }
@@ -81,6 +83,7 @@ fn value_of(word: Word) -> &'static str {
         Word::PartsBytes => "BYTES",
         Word::Socket | Word::ReadSocket | Word::StaySocket | Word::StayReadSocket => "PATH",
         Word::Listening | Word::StayListening => "A",
+        Word::LogFormat => "FORMAT",
         _flag => "",
     }
 }
@@ -96,6 +99,9 @@ fn help_of_node(word: Word) -> &'static str {
         }
         Word::NeedData => "End with status 1 where there is neither a file nor another node",
         Word::NoGuard => "Don't test changes first: a conflict makes the node fail",
+        Word::LogFormat => {
+            "How the lines on standard error are written: text, or json, an object a line; text where it isn't given"
+        }
         Word::Socket | Word::StaySocket => {
             "Also serve as many connections over a Unix domain socket of this path; a file there that nobody listens on is replaced"
         }
@@ -163,7 +169,7 @@ fn shape_of(word: Word) -> Shape {
         Word::Refusal => Shape::Position,
         Word::Address | Word::Items | Word::Out | Word::From => Shape::Option,
         Word::Load | Word::PartsBytes | Word::Listening | Word::StayListening => Shape::Option,
-        Word::Socket | Word::ReadSocket => Shape::Option,
+        Word::Socket | Word::ReadSocket | Word::LogFormat => Shape::Option,
         Word::StaySocket | Word::StayReadSocket => Shape::Option,
         Word::Sources => Shape::Options,
         Word::Quiet | Word::StayQuiet => Shape::Letter('q'),

@@ -84,6 +84,8 @@ pub struct Stay<'a> {
     pub level: Level,
     /// After how many changes the node's front is printed each time; 0 is never.
     pub report_changes: u64,
+    /// Whether its lines on standard error are JSON.
+    pub in_json: bool,
     /// What it has before it listens, as `node`: it prints one line of what it opened, and its other lines have the time, how grave
     /// they are, and the peer's address. None as `serve --stay`.
     pub start: Option<Start<'a>>,

@@ -7,6 +7,7 @@ ghost use Rattle.hk_host.specs.Pins.{ReleasesHold, TakesHold};
 
 use crate::link_events::{LinkEvent, Teller};
 use crate::seat_host::SeatHost;
+use crate::subject::Subject;
 use hk_node::{Hold, Node, NodeName};
 use hk_types::{Refusal, Time};
 use std::sync::Wait;
@@ -18,10 +19,16 @@ pub(crate) fn tell_changed<R: Wait>(rt: &R, teller: Option<&Teller<'_>>, ops: u6
     }
 }
 
-/// Reports that a change was refused, if there is a teller.
-pub(crate) fn tell_refused<R: Wait>(rt: &R, teller: Option<&Teller<'_>>, why: &Refusal) {
+/// Reports that a change was refused, and what it begins with, if there is a teller.
+pub(crate) fn tell_refused<R: Wait>(
+    rt: &R,
+    teller: Option<&Teller<'_>>,
+    why: &Refusal,
+    about: Option<Subject>,
+) {
     if let Some(teller) = teller {
-        teller.tell(rt, LinkEvent::Refused(why.number()));
+        let number = why.number();
+        teller.tell(rt, LinkEvent::Refused { number, about });
     }
 }
 
@@ -44,13 +51,13 @@ pub(crate) fn hold_on<J: NodeName, N: Wait + Drop, R: Wait>(
                 Ok(hold)
             }
             Err(why) => {
-                tell_refused(rt, teller, &why);
+                tell_refused(rt, teller, &why, None);
                 Err((Some(hold), why))
             }
         },
         Err((hold, why)) => {
             let _known = reads.seat.seen();
-            tell_refused(rt, teller, &why);
+            tell_refused(rt, teller, &why, None);
             Err((hold, why))
         }
     }
@@ -75,13 +82,13 @@ pub(crate) fn release_on<J: NodeName, N: Wait + Drop, R: Wait>(
                 Ok(ops)
             }
             Err(why) => {
-                tell_refused(rt, teller, &why);
+                tell_refused(rt, teller, &why, None);
                 Err((None, why))
             }
         },
         Err((back, why)) => {
             let _known = reads.seat.seen();
-            tell_refused(rt, teller, &why);
+            tell_refused(rt, teller, &why, None);
             Err((back, why))
         }
     }

@@ -11,6 +11,7 @@ ghost use Rattle.hk_seats.specs.Telling.{GoesOnBy};
 use crate::holding::{hold_on, release_on, tell_changed, tell_refused};
 use crate::link_events::Teller;
 use crate::seat_host::SeatHost;
+use crate::subject::{Subject, subject_of};
 use hk_delta::Fragment;
 use hk_link::NodeSide;
 use hk_model::{Answer, Front, Page, Query, StreamsTold};
@@ -126,12 +127,12 @@ impl<'a, J: NodeName, N: Wait + Drop, R: Threads + Wait + Sync> NodeHost<'a, J, 
         }
     }
 
-    /// Reports that a change was refused. Where that made the node fail nobody waits any more.
-    fn tell_refused(&self, why: &Refusal)
+    /// Reports that a change was refused, and what it begins with. Where that made the node fail nobody waits any more.
+    fn tell_refused(&self, why: &Refusal, about: Option<Subject>)
         ensures { is_legal self.now ≡ true }
     {
         let is_guarded = self.reads.seat.is_guarded();
-        tell_refused(self.rt, self.teller, why);
+        tell_refused(self.rt, self.teller, why, about);
         if let (Some(teller), Refusal::Conflict, false) = (self.teller, why, is_guarded) {
             if self.node.hold_refusal(self.rt, Time::zero()) == Refusal::Damaged {
                 teller.bell().ring_for_good();
@@ -149,8 +150,8 @@ impl<'a, J: NodeName, N: Wait + Drop, R: Threads + Wait + Sync> NodeHost<'a, J, 
         tell_changed(self.rt, self.teller, ops);
     }
 
-    /// Reports what came of a change.
-    fn tell(&mut self, reply: &Reply)
+    /// Reports what came of a change that begins so.
+    fn tell(&mut self, reply: &Reply, about: Option<Subject>)
         ensures legal { is_legal self.new ≡ true }
         ensures goes { GoesOnBy (reply_seen reply.now) self.old self.new }
     {
@@ -158,8 +159,8 @@ impl<'a, J: NodeName, N: Wait + Drop, R: Threads + Wait + Sync> NodeHost<'a, J, 
         match reply {
             Reply::Done { ops } => self.tell_made(*ops),
             Reply::Later(LaterReply::Fed { ops, .. }) => self.tell_made(*ops),
-            Reply::Refused(why) => self.tell_refused(why),
-            Reply::Later(LaterReply::Refused(why)) => self.tell_refused(why),
+            Reply::Refused(why) => self.tell_refused(why, about),
+            Reply::Later(LaterReply::Refused(why)) => self.tell_refused(why, about),
             _ => {}
         }
     }
@@ -172,10 +173,11 @@ impl<'a, J: NodeName, N: Wait + Drop, R: Threads + Wait + Sync> Host for NodeHos
 
     fn answer(&mut self, request: Request) -> Reply {
         let is_told = is_change(&request);
+        let about = subject_of(&request);
         let seat = &mut self.reads.seat;
         let reply = answer_at(self.rt, self.alloc, self.node, seat, request);
         if is_told {
-            self.tell(&reply);
+            self.tell(&reply, about);
         }
         reply
     }

@@ -3,9 +3,11 @@
 use crate::doors::Limits;
 use crate::link_session::LinkSession;
 use crate::sockets::Socket;
+use crate::speech::speech_of;
 use crate::waiting::Awaited;
 use crate::writing::{MOST_HELD, Unwritten};
 use hk_doors::FrameWatch;
+use hk_host::Speech;
 use hk_link::{LinkState, Meters};
 use hk_session::Ended;
 use std::alloc::Global;
@@ -18,6 +20,9 @@ const MOST_SILENT: u64 = 250;
 
 /// From how many milliseconds on a frame that isn't complete has to have brought as many bytes as its time asks for.
 const RATE_AFTER: u64 = 30_000;
+
+/// How many of a connection's first bytes show what they are of.
+const FIRST_BYTES: usize = 4;
 
 /// How many bytes are counted together where room is reserved for them.
 const COUNTED_BYTES: u64 = 4_096;
@@ -41,6 +46,9 @@ pub(crate) struct Pipe<'d> {
     pub(crate) meters: &'d Meters<'d>,
     pub(crate) socket: Socket,
     pub(crate) watch: FrameWatch,
+    /// Whether its first four bytes are still to come, and what they are of, where they are of no message.
+    is_fresh: bool,
+    pub(crate) speech: Option<Speech>,
     /// What was read and isn't handed to its session, since it begins with a request for a worker that gives long answers.
     pub(crate) rest: Vec<u8>,
     pub(crate) unwritten: Unwritten,
@@ -89,6 +97,8 @@ impl<'d> Pipe<'d> {
             meters,
             socket,
             watch: FrameWatch::new(),
+            is_fresh: true,
+            speech: None,
             rest: Vec::new(alloc),
             unwritten: Unwritten::new(alloc),
             awaited: None,
@@ -119,6 +129,14 @@ impl<'d> Pipe<'d> {
         // The system may say no more than that a socket takes bytes, of a connection that has none for it.
         let is_read = told.is_readable && self.awaited.is_none();
         self.is_cut || is_read || !self.unwritten.is_empty()
+    }
+
+    /// Notes what its first bytes are of, once four are there.
+    pub(crate) fn note_first(&mut self, bytes: &[u8]) {
+        if self.is_fresh && bytes.len() >= FIRST_BYTES {
+            self.is_fresh = false;
+            self.speech = speech_of(bytes);
+        }
     }
 
     /// How many bytes stand before its session: what came of a frame that isn't complete, and what waits for another worker.

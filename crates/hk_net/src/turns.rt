@@ -274,6 +274,7 @@ impl<'d> Link<'d> {
                 if count < piece.len() - begun && !self.pipe.is_special {
                     self.pipe.is_readable = false;
                 }
+                self.pipe.note_first(&piece[..begun + count]);
                 let step = self.take_in(moment, &mut piece[..begun + count], out, host);
                 // The frame that isn't complete, or that is for another worker, began with these bytes.
                 let held = self.pipe.held();
