@@ -22,6 +22,7 @@ from staying import PROGRAM, OwnNode, said
 
 # the rows of each time: what a log of so many entries of two rows each puts, by the definition
 ENTRIES, BODY = 40, 2_000
+NO_PLAIN_FILE = "it is a device, a pipe or a folder, which no file takes the place of; "
 PLACES = 20
 FOLDER = pathlib.Path(tempfile.mkdtemp(prefix="returns"))
 FROM = re.compile(r"\d{4}-\d\d-\d\dT\d\d:\d\d:\d\d\.\d{3}Z (info|warn) - (load|from) (\S+): (.*)\n")
@@ -230,9 +231,9 @@ def saves_side_by_side():
         file.write_bytes(b"old")
         link.symlink_to(file)
         pairs += [("through a link", run("save", "--port", node.port, "--out", link), (0, b"", "")), ("the link and the file", (link.is_symlink(), file.read_bytes() == whole), (True, True))]
-        for name, target in (("a device", "/dev/null"), ("a folder", FOLDER), ("no folder", FOLDER / "none" / "file")):
+        for name, target, why in (("a device", "/dev/null", NO_PLAIN_FILE), ("a folder", FOLDER, NO_PLAIN_FILE), ("no folder", FOLDER / "none" / "file", "")):
             status, out, errors = run("save", "--port", node.port, "--out", target)
-            pairs.append((name, (status, out, errors.startswith(f"stopped: can't make the file {target}: "), len(errors.splitlines())), (1, b"", True, 1)))
+            pairs.append((name, (status, out, errors.startswith(f"stopped: can't make the file {target}: {why}"), len(errors.splitlines())), (1, b"", True, 1)))
     report("saves side by side, through a link, and to what is no plain file", differ(pairs))
 
 

@@ -243,13 +243,10 @@ impl<'w, 'd, J: NodeName + 'w, N: Wait + Drop + 'w, R: Threads + Wait + Clock + 
         let Some(door) = self.reactor.worker.behind.take() else {
             return;
         };
-        if let Some(
-            Door {
-                way: Way::Open(node) | Way::Feeding(node),
-                ..
-            },
-        ) = self.shop.doors.get(door)
-        {
+        let Some(door) = self.shop.doors.get(door) else {
+            return;
+        };
+        if let Way::Open(node) | Way::Feeding(node) = &door.way {
             node.settle(self.reactor.rt);
         }
     }

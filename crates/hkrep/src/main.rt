@@ -94,7 +94,11 @@ fn tell_reading<E: Write>(terminal: Terminal, call: &Alone, errors: &mut E) {
     }
 }
 
-/// Prints that a file can't be made or written, in the system's words.
+/// What is wrong with a name that stands for something else than a plain file.
+const NO_PLAIN_FILE: &str =
+    "it is a device, a pipe or a folder, which no file takes the place of; '> FILE' writes to a device or a pipe";
+
+/// Prints that a file can't be made or written, in the system's words, or that it is no plain file.
 fn tell_no_file<E: Write>(
     alloc: Global,
     what: &str,
@@ -102,7 +106,11 @@ fn tell_no_file<E: Write>(
     error: &io::Error,
     errors: &mut E,
 ) {
-    let line = format!(in alloc; "stopped: can't {what} the file {name}: {error}\n");
+    let line = if error.kind() == ErrorKind::InvalidInput {
+        format!(in alloc; "stopped: can't {what} the file {name}: {NO_PLAIN_FILE}\n")
+    } else {
+        format!(in alloc; "stopped: can't {what} the file {name}: {error}\n")
+    };
     let _told = match line {
         Ok(line) => errors.write_all(line.as_bytes()),
         Err(_memory) => errors.write_all(NO_FILE),
