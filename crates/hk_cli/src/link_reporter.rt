@@ -12,6 +12,7 @@ use hk_net::{LinkEvent, Speech, Subject, Watch};
 use hk_node::{NodeName, ReaderSeat};
 use hk_session::Ended;
 use hk_types::Time;
+use log::kv::display;
 use log::{error, info, warn};
 use std::alloc::Global;
 use std::collections::HashMap;
@@ -284,14 +285,17 @@ impl<'o, 'a, W: Write, E: Write, V: Write, J: NodeName, C: Clock> LinkReporter<
         if !self.admits(door, "refused", number) {
             return;
         }
+        let (table, key, time) = match &about {
+            Some(it) => (
+                Some(it.table.number()),
+                Some(display(it.key)),
+                Some(display(it.time)),
+            ),
+            None => (None, None, None),
+        };
         let Ok(words) = refused_words(self.alloc, link, number, about) else {
             return;
         };
-        let (table, key, time) = match about {
-            Some(it) => (Some(it.table.number()), Some(it.key), Some(it.time)),
-            None => (None, None, None),
-        };
-        let (key, time) = (key.map(log::kv::display), time.map(log::kv::display));
         warn!(self.log; peer = address, event = "refused", link:% = link, number, table, key, at = time; "{words}");
     }
 

@@ -64,7 +64,7 @@ impl<'a, J: NodeName, N: Wait + Drop> Door<'a, J, N> {
         links: usize,
         budget: &'a PartsBudget,
     ) -> Door<'a, J, N>
-        ensures { result ≡ way_passes way }
+        ensures { result ≡ way_passes way.entry }
     {
         Door {
             listener,
@@ -140,7 +140,7 @@ impl<'a, J: NodeName, N: Wait + Drop> Door<'a, J, N> {
 
     /// The same door, of whose connections each change that takes effect is reported too.
     pub fn with_changes(self) -> Door<'a, J, N>
-        ensures { result ≡ self }
+        ensures { result ≡ self.entry }
     {
         let mut door = self;
         door.tells_changes = true;
