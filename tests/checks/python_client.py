@@ -22,6 +22,7 @@ import zipfile
 sys.dont_write_bytecode = True
 ROOT = pathlib.Path(__file__).resolve().parents[2]
 import python_addresses
+import python_caught
 import python_members
 import python_names
 import python_servers
@@ -679,7 +680,7 @@ def syntax():
 
 
 CHECKS = (values, reasons, client_items, client_messages, client_faults, stored, syntax, program_items, program_replies, a_node, pipelines,
-          limits_and_links, waited_for, *python_addresses.CHECKS, *python_servers.CHECKS, *python_stats.CHECKS, *python_waiting.CHECKS, asynchronous, many_nodes, *python_members.CHECKS, log_writer, writer_refusals, resumed, *python_names.CHECKS, commands, exports, export_places, wheel)
+          limits_and_links, waited_for, *python_addresses.CHECKS, *python_servers.CHECKS, *python_stats.CHECKS, *python_waiting.CHECKS, asynchronous, many_nodes, *python_members.CHECKS, log_writer, writer_refusals, resumed, *python_names.CHECKS, *python_caught.CHECKS, commands, exports, export_places, wheel)
 
 
 def main(words):

@@ -84,7 +84,7 @@ REASONS: Dict[int, Reason] = {
     26: _of(
         "NotYet",
         "a time above the resolved time",
-        "feed the marks of all streams, or ask at the resolved time",
+        "ask at the resolved time, or wait for the time (--wait, node.wait); who feeds: send the marks of all streams",
         "readable",
     ),
     30: _of("WriteConflict", "a later commit wrote the key", "begin the transaction again", "table", "key", "at"),
