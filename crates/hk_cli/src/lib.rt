@@ -8,6 +8,7 @@ mod memory;
 mod metering;
 mod moment;
 mod notice;
+mod outcome;
 mod serve;
 mod starting;
 mod stay;

@@ -4,11 +4,13 @@ ghost use Rattle.std.specs.Prelude.{⊤};
 ghost use Rattle.std.specs.Thread.{IsSync};
 
 use crate::head::{Grade, Heads};
+use crate::outcome::{Begun, Outcome};
 use hk_cli_calls::{Limits, NodePlace, OutputForm, Start};
 use hk_cli_commands::Output;
 use hk_cli_input::Stop;
 use hk_cli_reasons::{Origin, Place, RequestContext};
 use hk_cli_remote::{fetch_from, refusal_of};
+use hk_cli_sums::Summed;
 use hk_model::{Front, Told};
 use hk_net::{LinkState, NodeHost, PartsBudget, PartsHost};
 use hk_node::{Node, NodeName, ReaderSeat};
@@ -17,7 +19,7 @@ use hk_types::{FormFault, Refusal, Time};
 use hk_wire::{LaterRequest, Reply, Request};
 use std::alloc::{AllocError, Global};
 use std::fs::Files;
-use std::io::{Read, Write};
+use std::io::{ErrorKind, Read, Write};
 use std::net::{Net, TcpListener, TcpStream};
 use std::rt::Clock;
 use std::sync::Wait;
@@ -32,6 +34,10 @@ const LIMITS: Limits = Limits {
 
 /// The refusal of a request that gives no snapshot.
 const BAD_KIND: Refusal = Refusal::Form(FormFault::BadKind);
+
+/// What is said of a file that has no checksum, behind its name.
+const NO_CHECKSUM: &str =
+    "it has no checksum, so corrupt bytes may not show; 'hkrep save' writes one\n";
 
 /// The origin of what a node of the same program refuses.
 const HERE: Origin = Origin {
@@ -249,13 +255,13 @@ fn is_fetched<R: Net<Listener = TcpListener, Stream = TcpStream> + Clock + Alloc
     }
 }
 
-/// Has the node take what another has above what it has. `None` where why not is in the words already.
+/// Has the node take what another has above what it has. Where it gave nothing, why not is in the words already.
 fn take_node<J: NodeName, N: Wait + Drop, R>(
     rt: &R,
     place: NodePlace<'_>,
     own: &mut Own<'_, '_, J, N, R>,
     words: &mut Vec<u8>,
-) -> Result<bool, Stop>
+) -> Result<Outcome, Stop>
 where
     R: Net<Listener = TcpListener, Stream = TcpStream> + Clock + Alloc<A = Global>,
     R: Threads + Wait + Sync,
@@ -263,10 +269,10 @@ where
     let front = own.front()?;
     let mut frames = Vec::new(rt.alloc());
     if !is_fetched(rt, place, front.readable, &mut frames, words) {
-        return Ok(false);
+        return Ok(Outcome::Absent);
     }
     own.take_input(rt.alloc(), frames.as_slice())?;
-    Ok(true)
+    Ok(Outcome::Taken)
 }
 
 /// Adds in words why a file can't be opened.
@@ -275,94 +281,149 @@ fn put_unopened(alloc: Global, error: &io::Error, words: &mut Vec<u8>) -> Result
     words.extend_from_slice(line.as_bytes())
 }
 
-/// Has the node take the snapshot of the file of this name. `false` where why not is in the words already.
+/// Has the node take the snapshot of an open file, once its checksum was read and is right; one without is taken too.
+fn take_summed<J: NodeName, N: Wait + Drop, R: Threads + Wait + Sync, I: Read + Drop>(
+    alloc: Global,
+    file: I,
+    own: &mut Own<'_, '_, J, N, R>,
+) -> Result<Outcome, Stop> {
+    let mut summed = Summed::new(alloc, file)?;
+    let taken = own.take_input(alloc, &mut summed);
+    if let Some(fault) = summed.fault() {
+        return Err(Stop::Sum(fault));
+    }
+    taken?;
+    if summed.is_open() {
+        return Ok(Outcome::TakenUnchecked);
+    }
+    Ok(Outcome::Taken)
+}
+
+/// What came of a file that can't be opened.
+fn unopened(error: &io::Error) -> Outcome {
+    match error.kind() {
+        ErrorKind::NotFound => Outcome::Absent,
+        _there => Outcome::Refused,
+    }
+}
+
+/// Has the node take the snapshot of the file of this name. Where it can't be opened, why not is in the words already.
 fn take_file<J: NodeName, N: Wait + Drop, R: Threads + Wait + Sync + Files + Alloc<A = Global>>(
     rt: &R,
     name: &str,
     own: &mut Own<'_, '_, J, N, R>,
     words: &mut Vec<u8>,
-) -> Result<bool, Stop> {
+) -> Result<Outcome, Stop> {
     match fs::open(rt, name) {
-        Ok(file) => {
-            own.take_input(rt.alloc(), file)?;
-            Ok(true)
-        }
+        Ok(file) => take_summed(rt.alloc(), file, own),
         Err(error) => {
             put_unopened(rt.alloc(), &error, words)?;
-            Ok(false)
+            Ok(unopened(&error))
         }
     }
 }
 
-/// Has the node take something, and adds in words what came of it. Returns whether it was taken.
+/// Has the node take something, and adds in words what came of it.
 fn take_source<J: NodeName, N: Wait + Drop, R>(
     rt: &R,
     source: Source<'_>,
     own: &mut Own<'_, '_, J, N, R>,
     words: &mut Vec<u8>,
-) -> Result<bool, Stop>
+) -> Result<Outcome, Stop>
 where
     R: Net<Listener = TcpListener, Stream = TcpStream> + Clock + Files + Alloc<A = Global>,
     R: Threads + Wait + Sync,
 {
-    let is_taken = match source {
+    let outcome = match source {
         Source::File(name) => take_file(rt, name, own, words)?,
         Source::Node(place) => take_node(rt, place, own, words)?,
     };
-    if is_taken {
+    if outcome.is_taken() {
         let front = own.front()?;
         show(rt.alloc(), front, words);
     }
-    Ok(is_taken)
+    Ok(outcome)
+}
+
+/// Prints a line about something to take.
+fn tell_line<C: Clock, W: Write, E: Write>(
+    alloc: Global,
+    heads: &Heads<'_, C>,
+    grade: Grade,
+    source: Source<'_>,
+    words: &str,
+    output: &mut Output<'_, W, E>,
+) -> Result<(), AllocError> {
+    let head = heads.head(grade, None)?;
+    output.note(head.as_str());
+    let name = name_of(alloc, source)?;
+    output.note(name.as_str());
+    output.note(words);
+    Ok(())
+}
+
+/// How grave it is what came of taking something.
+fn grade_of(outcome: Outcome) -> Grade {
+    match outcome {
+        Outcome::Taken | Outcome::TakenUnchecked => Grade::Info,
+        Outcome::Absent => Grade::Warn,
+        Outcome::Refused => Grade::Error,
+    }
 }
 
 /// Prints what came of taking something.
 fn tell_taken<C: Clock, W: Write, E: Write>(
     alloc: Global,
     heads: &Heads<'_, C>,
-    is_taken: bool,
+    outcome: Outcome,
     source: Source<'_>,
     words: &[u8],
     output: &mut Output<'_, W, E>,
 ) -> Result<(), AllocError> {
-    let grade = if is_taken { Grade::Info } else { Grade::Warn };
-    let head = heads.head(grade, None)?;
-    output.note(head.as_str());
-    let name = name_of(alloc, source)?;
-    output.note(name.as_str());
-    output.note(str::from_utf8(words).unwrap_or("\n"));
+    let words = str::from_utf8(words).unwrap_or("\n");
+    tell_line(alloc, heads, grade_of(outcome), source, words, output)?;
+    if matches!(outcome, Outcome::TakenUnchecked) {
+        return tell_line(alloc, heads, Grade::Warn, source, NO_CHECKSUM, output);
+    }
     Ok(())
 }
 
+/// What came of a source that stopped before it was taken.
+fn stopped(source: Source<'_>) -> Outcome {
+    match source {
+        Source::File(_) => Outcome::Refused,
+        Source::Node(_) => Outcome::Absent,
+    }
+}
+
 /// The same, with why it stopped in words.
-fn is_taken<J: NodeName, N: Wait + Drop, R>(
+fn outcome_of<J: NodeName, N: Wait + Drop, R>(
     rt: &R,
     source: Source<'_>,
     own: &mut Own<'_, '_, J, N, R>,
     words: &mut Vec<u8>,
-) -> bool
+) -> Outcome
 where
     R: Net<Listener = TcpListener, Stream = TcpStream> + Clock + Files + Alloc<A = Global>,
     R: Threads + Wait + Sync,
 {
     match take_source(rt, source, own, words) {
-        Ok(is_taken) => is_taken,
+        Ok(outcome) => outcome,
         Err(stop) => {
             explain(rt.alloc(), stop, words);
-            false
+            stopped(source)
         }
     }
 }
 
-/// Has a node take something by a seat of it, which is there again after, and adds in words what came of it. Returns whether it was
-/// taken.
+/// Has a node take something by a seat of it, which is there again after, and adds in words what came of it.
 fn taken_by<J: NodeName, N: Wait + Drop, R>(
     rt: &R,
     source: Source<'_>,
     node: &Node<J, N>,
     seat: &mut Option<ReaderSeat<J>>,
     words: &mut Vec<u8>,
-) -> bool
+) -> Outcome
 where
     R: Net<Listener = TcpListener, Stream = TcpStream> + Clock + Files + Alloc<A = Global>,
     R: Threads + Wait + Sync,
@@ -370,16 +431,16 @@ where
     // Nobody else is served yet.
     let Ok(budget) = PartsBudget::new(rt.alloc(), u64::MAX) else {
         explain(rt.alloc(), Stop::Refused(Refusal::Memory), words);
-        return false;
+        return stopped(source);
     };
     let Some(reader) = mem::take(seat) else {
-        return false;
+        return stopped(source);
     };
     let host = NodeHost::new(rt, rt.alloc(), node, reader);
     let mut own = Own::new(rt.alloc(), host, &budget);
-    let is_taken = is_taken(rt, source, &mut own, words);
+    let outcome = outcome_of(rt, source, &mut own, words);
     *seat = Some(own.into_seat());
-    is_taken
+    outcome
 }
 
 /// The same, and prints what came of it.
@@ -390,15 +451,41 @@ fn taken_and_told<J: NodeName, N: Wait + Drop, R, W: Write, E: Write>(
     node: &Node<J, N>,
     seat: &mut Option<ReaderSeat<J>>,
     output: &mut Output<'_, W, E>,
-) -> bool
+) -> Outcome
 where
     R: Net<Listener = TcpListener, Stream = TcpStream> + Clock + Files + Alloc<A = Global>,
     R: Threads + Wait + Sync,
 {
     let mut words = Vec::new(rt.alloc());
-    let is_taken = taken_by(rt, source, node, seat, &mut words);
-    let _told = tell_taken(rt.alloc(), heads, is_taken, source, &words, output);
-    is_taken
+    let outcome = taken_by(rt, source, node, seat, &mut words);
+    let _told = tell_taken(rt.alloc(), heads, outcome, source, &words, output);
+    outcome
+}
+
+/// Has a node take what the first of these files has that is whole. Where none is and one is there, that is refused.
+fn taken_of_files<J: NodeName, N: Wait + Drop, R, W: Write, E: Write>(
+    rt: &R,
+    heads: &Heads<'_, R>,
+    files: &[Option<&str>],
+    node: &Node<J, N>,
+    seat: &mut Option<ReaderSeat<J>>,
+    output: &mut Output<'_, W, E>,
+) -> Outcome
+where
+    R: Net<Listener = TcpListener, Stream = TcpStream> + Clock + Files + Alloc<A = Global>,
+    R: Threads + Wait + Sync,
+{
+    let mut outcome = Outcome::Absent;
+    for name in files {
+        if let Some(name) = name {
+            let next = taken_and_told(rt, heads, Source::File(name), node, seat, output);
+            outcome = outcome.or(next);
+            if outcome.is_taken() {
+                return outcome;
+            }
+        }
+    }
+    outcome
 }
 
 /// Has a node take what the first of these nodes has that gives something. Returns whether one did.
@@ -416,7 +503,7 @@ where
 {
     for place in sources {
         if let Some(place) = place {
-            if taken_and_told(rt, heads, Source::Node(*place), node, seat, output) {
+            if taken_and_told(rt, heads, Source::Node(*place), node, seat, output).is_taken() {
                 return true;
             }
         }
@@ -424,10 +511,10 @@ where
     false
 }
 
-/// Has a node take what it begins with, by a seat of it, which is there again after: first what the file has, then what the first node
-/// that gives something has above that. Each is taken whole or not at all, as over a connection that may do everything, without one; a
-/// line on `errors` says what came of it. Returns whether anything was taken. Cost: that of what is taken, which is kept beside the node
-/// until then.
+/// Has a node take what it begins with, by a seat of it, which is there again after: first what the first file has that is whole, then
+/// what the first node that gives something has above that. Each is taken whole or not at all, as over a connection that may do
+/// everything, without one; a line on `errors` says what came of it. Where a file is there and none is whole, no node is asked, unless
+/// a file may lack. Cost: that of what is taken, which is kept beside the node until then.
 pub(crate) fn begin<J: NodeName, N: Wait + Drop, R, W: Write, E: Write>(
     rt: &R,
     heads: &Heads<'_, R>,
@@ -435,15 +522,19 @@ pub(crate) fn begin<J: NodeName, N: Wait + Drop, R, W: Write, E: Write>(
     seat: &mut Option<ReaderSeat<J>>,
     start: &Start<'_>,
     output: &mut Output<'_, W, E>,
-) -> bool
+) -> Begun
 where
     R: Net<Listener = TcpListener, Stream = TcpStream> + Clock + Files + Alloc<A = Global>,
     R: Threads + Wait + Sync,
 {
-    let has_file = match start.file {
-        Some(name) => taken_and_told(rt, heads, Source::File(name), node, seat, output),
-        None => false,
-    };
+    let file = taken_of_files(rt, heads, &start.files, node, seat, output);
+    if matches!(file, Outcome::Refused) && !start.may_lack_file {
+        return Begun::Refused;
+    }
     let has_node = taken_of_first(rt, heads, &start.sources, node, seat, output);
-    has_file || has_node
+    if file.is_taken() || has_node {
+        Begun::WithData
+    } else {
+        Begun::Empty
+    }
 }

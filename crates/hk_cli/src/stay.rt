@@ -9,6 +9,7 @@ use crate::listening::{many_listener_of, most_files, port_of, socket_listener};
 use crate::memory::share_of_memory;
 use crate::metering::meters_of;
 use crate::notice::Notice;
+use crate::outcome::Begun;
 use crate::serve::{budget_of, new_list, stop_of, tell_unproved};
 use crate::starting::begin;
 use crate::texts::{Backlog, MOST_WAITING, Target, Text, TextWriter, write_texts};
@@ -45,6 +46,11 @@ const PLAIN_BYTES: u64 = 1_073_741_824;
 /// The line where a node that needs data can have none.
 const NO_DATA: &str =
     "stopped: there is no data, and --need-data is given; see the lines above, or start it without\n";
+
+/// The line where a file is there and none is whole.
+const NO_FILE: &str =
+    "stopped: a file of --load is there, and none is whole; see the lines above. Give another by --load, put it elsewhere, or begin \
+without it by --load-or-empty: 'hkrep save' to its name takes its place then\n";
 
 /// The listeners of the ports and sockets, of those that there are.
 #[derive(Drop)]
@@ -500,7 +506,7 @@ fn put_back<J: NodeName>(
     }
 }
 
-/// Has a node take what it begins with, on one of its seats. Returns whether anything was taken.
+/// Has a node take what it begins with, on one of its seats.
 fn take_on_seat<J: NodeName, N: Wait + Drop, R, W: Write, E: Write>(
     rt: &R,
     node: &Node<J, N>,
@@ -508,19 +514,38 @@ fn take_on_seat<J: NodeName, N: Wait + Drop, R, W: Write, E: Write>(
     start: &Start<'_>,
     seats: &mut Vec<ReaderSeat<J>>,
     output: &mut Output<'_, W, E>,
-) -> Result<bool, Stop>
+) -> Result<Begun, Stop>
 where
     R: Net<Listener = TcpListener, Stream = TcpStream> + Clock + Files + Alloc<A = Global>,
     R: Threads + Wait + Sync,
 {
     let mut seat = seats.pop();
     let heads = heads_of(rt, rt.alloc(), stay);
-    let has_data = begin(rt, &heads, node, &mut seat, start, output);
+    let begun = begin(rt, &heads, node, &mut seat, start, output);
     put_back(seat, seats)?;
-    Ok(has_data)
+    Ok(begun)
 }
 
-/// Has a node take what it begins with. It refuses where nothing was taken and something has to be.
+/// Refuses where a file is there and none is whole, and where nothing was taken and something has to be.
+fn begun_checked<W: Write, E: Write>(
+    start: &Start<'_>,
+    begun: Begun,
+    output: &mut Output<'_, W, E>,
+) -> Result<(), Stop> {
+    match begun {
+        Begun::Refused => {
+            output.note(NO_FILE);
+            Err(Stop::Quit)
+        }
+        Begun::Empty if start.needs_data => {
+            output.note(NO_DATA);
+            Err(Stop::NetTold)
+        }
+        _begins => Ok(()),
+    }
+}
+
+/// Has a node take what it begins with. It refuses where it may not begin with that.
 fn take_start<J: NodeName, N: Wait + Drop, R, W: Write, E: Write>(
     rt: &R,
     node: &Node<J, N>,
@@ -535,13 +560,9 @@ where
     let Some(start) = &stay.start else {
         return Ok(());
     };
-    let has_data = take_on_seat(rt, node, stay, start, seats, output)?;
+    let begun = take_on_seat(rt, node, stay, start, seats, output)?;
     output.flush()?;
-    if start.needs_data && !has_data {
-        output.note(NO_DATA);
-        return Err(Stop::NetTold);
-    }
-    Ok(())
+    begun_checked(start, begun, output)
 }
 
 /// Prints that connections can be opened.

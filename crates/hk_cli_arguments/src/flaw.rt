@@ -18,6 +18,8 @@ pub(crate) enum WordFlaw {
     Source,
     /// This one of `--from` of a node names none, or is one too many.
     Sources,
+    /// This one of `--load` is one too many.
+    Files,
     /// That of `--link-bytes` is no number of bytes and no share of the memory.
     Chunks,
     /// That of `--address` is no IP address.
@@ -61,6 +63,7 @@ fn words_behind(flaw: WordFlaw) -> &'static str {
         WordFlaw::Sources => {
             " for '--from <NODE>': up to 8 nodes are wanted; a port is 1 to 65535; "
         }
+        WordFlaw::Files => " for '--load <FILE>': up to 8 files are wanted",
         WordFlaw::Chunks => {
             " for '--link-bytes <BYTES>': a number of bytes is wanted, or 1% to 100% of the memory"
         }

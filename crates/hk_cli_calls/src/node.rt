@@ -56,9 +56,10 @@ pub enum Order {
         form: OutputForm,
     },
     /// To return a full snapshot: in bytes, the frame of a request that gives it to a node, or those of its chunks where one
-    /// message has no room for it; or lines of JSON.
+    /// message has no room for it, and behind them that of their checksum unless it is plain; or lines of JSON.
     Save {
         form: OutputForm,
+        is_plain: bool,
     },
     /// To join the fragments of the input, in one message or in chunks, as `Save` writes them in bytes.
     Load,
@@ -82,7 +83,7 @@ impl Order {
     pub fn form(&self) -> OutputForm {
         match self {
             Order::Ask { form, .. } | Order::Front { form, .. } => *form,
-            Order::Status { form, .. } | Order::Save { form } => *form,
+            Order::Status { form, .. } | Order::Save { form, .. } => *form,
             Order::Push { .. } | Order::Shell { .. } | Order::Load => OutputForm::Lines,
             Order::Pull | Order::Prune { .. } | Order::Feed { .. } => OutputForm::Lines,
         }

@@ -35,11 +35,16 @@ pub enum PartsLimit {
 /// The most nodes of which one takes what it begins with.
 pub const MOST_SOURCES: usize = 8;
 
+/// The most files of which one is taken.
+pub const MOST_FILES: usize = 8;
+
 /// What `node` has before it listens.
 #[derive(Clone, Copy)]
 pub struct Start<'a> {
-    /// The name of a file that `save` wrote, if what it has is taken first.
-    pub file: Option<&'a str>,
+    /// The names of files that `save` wrote: what the first that is whole has is taken first. Those that there are come first.
+    pub files: [Option<&'a str>; MOST_FILES],
+    /// Whether the node begins without a file where one is there and none is whole; else the program ends.
+    pub may_lack_file: bool,
     /// Nodes: what the first that answers has above that is taken next. Those that there are come first.
     pub sources: [Option<NodePlace<'a>>; MOST_SOURCES],
     /// Whether the program ends where neither can be had.

@@ -155,7 +155,7 @@ the oldest readable time and the marks that a sender states",
         26 => told(
             "NotYet {readable}",
             "a time above the resolved time",
-            "feed the marks of all streams, or ask at the resolved time",
+            "ask at the resolved time, or wait for the time (--wait, node.wait); who feeds: send the marks of all streams",
         ),
         _none => None,
     }

@@ -11,6 +11,7 @@ mod parts;
 mod progress;
 mod push;
 mod read;
+mod save;
 mod shell;
 mod stream;
 mod table;
