@@ -17,10 +17,10 @@ sys.dont_write_bytecode = True
 ROOT = pathlib.Path(__file__).resolve().parent.parent.parent
 sys.path[:0] = [str(ROOT / "connectors" / "postgres"), str(ROOT / "connectors" / "common"),
                 str(ROOT / "clients" / "python")]
+from built import hkrep
 
 PATIENCE = 60.0
-HKREP = next((it for it in (ROOT / "bin" / "hkrep", ROOT / "bin" / "hkrep-unproved") if it.exists()),
-             ROOT / "bin" / "hkrep")
+HKREP = hkrep()
 CAPTURE = ROOT / "connectors" / "postgres" / "capture"
 
 
