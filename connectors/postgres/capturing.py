@@ -15,8 +15,8 @@ from confirming import RIGHTS, Origin, see_slot
 from keeping import Kept
 from log import Changes, Log
 from pgoutput import UNCHANGED, Begin, Change, Commit, Message, Relation, Value, Values, Word
-from schemas import REMEMBERED, Schemas
-from shapes import Shape, Written
+from schemas import REMEMBERED, Schemas, renamed
+from shapes import Shape, Written, under_names
 from source import PREFIX, Source
 from vadungsil.postgres import COMMIT, HEAD, TABLES, place_of
 from vadungsil.values import MOST_BODY
@@ -105,6 +105,8 @@ class Capture:
                 )
         see_slot(self.said, self.catalog, self.origin, self.log.standing.lsn, self.kept.name)
         self.schemas.learn(self.log.own)
+        self.watch.go_on(self.schemas.publication, self.log.standing.lsn)
+        self.schemas.publication = self.watch.text()
 
     def load(self) -> None:
         """The rows that stand are the first transaction. What an earlier load left is written over."""
@@ -145,6 +147,7 @@ class Capture:
             if then[1:] != now[1:]:
                 raise psycopg2.OperationalError(f"{shape.table.name} was altered while its load began")
             self.schemas.load(shape, then)
+        self.schemas.publication = self.watch.text()
 
     # ------------------------------------------------------------ changes
 
@@ -237,8 +240,25 @@ class Capture:
         """The shape of a table as it was told last; None of one that isn't captured."""
         known = self.now.get(it.number)
         if known is None or known[0] is not it:
-            known = self.now[it.number] = (it, self.relation(it))
+            before, shape = known[1] if known else None, self.relation(it)
+            if before is not None and shape is not None and shape.table.number in self.changes.tables:
+                self.rename(before, shape)
+            known = self.now[it.number] = (it, shape)
         return known[1]
+
+    def rename(self, before: Shape, shape: Shape) -> None:
+        """Rows of this transaction have the names of now, where columns were renamed in it."""
+        names, changes = renamed(before, shape), Changes()
+        if not names:
+            return
+        for (number, key), row in self.changes.rows.ordered():
+            if row is None:
+                changes.remove(number, key)
+            else:
+                is_it = number == shape.table.number
+                changes.put(number, row._replace(body=under_names(row.body, names)) if is_it else row)
+        changes.count, changes.tables = self.changes.count, self.changes.tables
+        self.changes = changes
 
     def relation(self, it: Relation) -> Optional[Shape]:
         """A table as it is from here on; under its name stands the table that was loaded, and under no other."""
@@ -293,7 +313,6 @@ class Capture:
             self.log.note(rows)
         self.log.commit(it.end, self.xid, it.clock, self.changes)
         self.kept.is_cut = False
-        self.schemas.ended()
 
     def keep(self) -> None:
         """All that was written is kept."""
@@ -335,6 +354,8 @@ class Capture:
             return False
         is_last = bool(self.until) and self.log.standing.lsn >= self.until
         self.settle(is_last)
+        if is_last:
+            self.is_watched()
         seen = self.source.seen()
         if seen > max(self.beaten, self.log.standing.lsn) + QUIET_BYTES:
             self.beaten = seen

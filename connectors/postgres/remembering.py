@@ -59,22 +59,21 @@ class Past(NamedTuple):
             return None
         return next((name for time, name in reversed(self.names) if time <= born), None)
 
-    def called(self, name: str, time: int, is_mixed: bool) -> "Past":
-        """The same column, by a name from a time on. `is_mixed`: rows of just before that time may have either name."""
+    def called(self, name: str, time: int) -> "Past":
+        """The same column, by a name from a time on."""
         if name == self.names[-1][1]:
             return self
         names = (*self.names, (time, name))[-MOST_NAMES:]
-        since = time if is_mixed else max(self.since, names[0][0])
-        return self._replace(names=names, since=since)
+        return self._replace(names=names, since=max(self.since, names[0][0]))
 
 
 class Turn(NamedTuple):
-    """Where an era begins: the place of its transaction's commit, the time from which on the log has rows of it alone,
-    whether the transaction has rows of the table from before, and the number of the era."""
+    """Where an era begins: the place of its transaction's commit, the first time of the transaction in the log, the
+    first from which on the log has rows of this era alone, and the number of the era."""
 
     place: int
     time: int
-    is_mixed: bool
+    behind: int
     era: int
 
 
@@ -150,8 +149,8 @@ class Memory:
         """The past of a column in the era that begins."""
         before = self.pasts.get(number) if number is not None else None
         if before is not None and number not in self.altered:
-            return before.called(name, turn.time, turn.is_mixed)
-        return Past(number, turn.time, ((turn.time, name),), turn.era)
+            return before.called(name, turn.time)
+        return Past(number, turn.behind, ((turn.behind, name),), turn.era)
 
     # ------------------------------------------------------------ as a text
 

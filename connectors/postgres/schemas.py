@@ -12,8 +12,10 @@ from shapes import Shape
 from vadungsil.postgres import TIMES
 from vadungsil.values import MOST_BODY
 
-# What is remembered of a table stands in pieces from its number times so many on, above all other keys of table 0.
-REMEMBERED = 2**32
+# What is remembered of a table stands in pieces from its number times so many on, that of the publication below them, and
+# from there on is what a log remembers.
+OF_TABLE = 2**32
+OF_PUBLICATION = REMEMBERED = 2**31
 
 Rows = Dict[int, Optional[bytes]]
 
@@ -26,7 +28,7 @@ class Schemas:
     def __init__(self, catalog: Catalog) -> None:
         self.catalog = catalog
         self.memories: Dict[int, Memory] = {}
-        self.shapes: Dict[int, Shape] = {}  # by eras, of the transaction that is read and the last of each table
+        self.publication = ""  # what was published, as a text
         self.era = 0
 
     # ------------------------------------------------------------ table 0
@@ -36,17 +38,23 @@ class Schemas:
         pieces: Dict[int, List[bytes]] = {}
         for key in sorted(own):
             if key >= REMEMBERED:
-                pieces.setdefault(key // REMEMBERED, []).append(own[key])
+                pieces.setdefault(key // OF_TABLE, []).append(own[key])
         for number, bodies in pieces.items():
-            self.memories[number] = Memory.read(b"".join(bodies).decode())
+            text = b"".join(bodies).decode()
+            if number:
+                self.memories[number] = Memory.read(text)
+            else:
+                self.publication = text
 
     def rows(self, own: Dict[int, bytes]) -> Rows:
         """What is remembered otherwise than it stands in the log."""
+        texts = {number * OF_TABLE: memory.text() for number, memory in self.memories.items()}
+        texts[OF_PUBLICATION] = self.publication
         wanted: Dict[int, bytes] = {}
-        for number, memory in self.memories.items():
-            text = memory.text().encode()
-            for at in range(0, len(text), MOST_BODY):
-                wanted[number * REMEMBERED + at // MOST_BODY] = text[at : at + MOST_BODY]
+        for first, text in texts.items():
+            body = text.encode()
+            for at in range(0, len(body), MOST_BODY):
+                wanted[first + at // MOST_BODY] = body[at : at + MOST_BODY]
         rows: Rows = {key: body for key, body in wanted.items() if own.get(key) != body}
         rows.update({key: None for key in own if key >= REMEMBERED and key not in wanted})
         return rows
@@ -61,14 +69,16 @@ class Schemas:
         """Begins an era of a table, behind so many transactions of the log. Where `is_cut`, the transaction stands in
         part: what was remembered when it was written is what counts."""
         self.era += 1
-        shape.era, self.shapes[self.era] = self.era, shape
+        shape.era = self.era
         number, said = shape.table.number, said_of(it)
         memory = self.memories.get(number)
         if memory is None:
             pasts = self.adopt(shape, said, is_cut)
         else:
             look = memory.look if is_cut else self.catalog.look(shape)
-            turn = Turn(place, (transaction + (3 if is_mixed else 1)) * TIMES, is_mixed, self.era)
+            # what is remembered may become a transaction before this one
+            time = (transaction + 1) * TIMES
+            turn = Turn(place, time, time + 2 * TIMES if is_mixed else time, self.era)
             key = self.key_of(shape, memory)
             pasts = memory.turn(said, look, turn, self.catalog.alike)
             self.see_key(shape, memory, key, pasts)
@@ -100,21 +110,16 @@ class Schemas:
         )
         raise Broken(BAD, f"{table.place}: the key {table.key} of {table.name} {why}: begin a log with a new id")
 
-    def ended(self) -> None:
-        """A transaction has ended: of its eras each table's last goes on."""
-        if len(self.shapes) > len(self.memories) + 1:
-            last = {shape.table.number: era for era, shape in sorted(self.shapes.items())}
-            self.shapes = {era: self.shapes[era] for era in last.values()}
-
     # ------------------------------------------------------------ values of before
 
-    def names(self, shape: Shape, lacking: List[str], born: Optional[int], era: int) -> Dict[str, str]:
+    @staticmethod
+    def names(shape: Shape, lacking: List[str], born: Optional[int], era: int) -> Dict[str, str]:
         """The names that columns had in a row of the log, which was born then, or in one that came in this transaction,
-        of an era (`born` is None). 4 where one was altered since, or can't be told."""
+        in an era (`born` is None), whose names are those of now. 4 where one was altered since, or can't be told."""
         found: Dict[str, str] = {}
         for name in lacking:
             past = shape.pasts[name]
-            of_then = past.name_at(born) if born is not None else self.name_in(shape, name, past, era)
+            of_then = past.name_at(born) if born is not None else name if era >= past.era else None
             if of_then is None:
                 raise Broken(
                     BAD,
@@ -125,10 +130,9 @@ class Schemas:
             found[name] = of_then
         return found
 
-    def name_in(self, shape: Shape, name: str, past: Past, era: int) -> Optional[str]:
-        if era == shape.era:
-            return name
-        then = self.shapes.get(era)
-        if era < past.era or then is None or past.number is None:
-            return None
-        return next((it for it, of in then.pasts.items() if of.number == past.number), None)
+
+def renamed(before: Shape, now: Shape) -> Dict[str, str]:
+    """The columns of a table whose names are others in the era that begins, by those of before."""
+    names = {it.number: name for name, it in now.pasts.items() if it.number is not None}
+    found = {name: names.get(it.number, name) for name, it in before.pasts.items() if it.number is not None}
+    return {} if all(name == other for name, other in found.items()) else found

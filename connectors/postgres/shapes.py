@@ -4,7 +4,7 @@ from __future__ import annotations
 import json
 import math
 from json.encoder import encode_basestring as quoted  # type: ignore[attr-defined]
-from typing import Dict, List, NamedTuple, Optional, Sequence, Tuple
+from typing import Any, Dict, List, NamedTuple, Optional, Sequence, Tuple
 
 from configuration import BAD, Broken, Table
 from pgoutput import UNCHANGED, Unchanged, Values
@@ -191,3 +191,24 @@ class Shape:
                 )
             whole[self.names.index(name)] = before[of_then]
         return whole
+
+
+class Spelling(str):
+    """A number of JSON as it is spelled."""
+
+
+def under_names(body: bytes, names: Dict[str, str]) -> bytes:
+    """A body whose columns have other names; one that isn't among them gives way to one that gets its name."""
+    said = json.loads(body, parse_int=Spelling, parse_float=Spelling)
+    parts = [
+        f"{quoted(names.get(name, name))}:{spelled(value)}"
+        for name, value in said.items()
+        if name in names or name not in names.values()
+    ]
+    return ("{" + ",".join(parts) + "}").encode()
+
+
+def spelled(value: Any) -> str:
+    if value is None or isinstance(value, bool):
+        return json.dumps(value)
+    return str(value) if isinstance(value, Spelling) else str(quoted(value))

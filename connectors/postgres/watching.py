@@ -1,6 +1,7 @@
 """Whether what is captured is still published, all of it. Needs python3-psycopg2."""
 from __future__ import annotations
 
+import json
 import time
 from typing import Any, Dict, List, Optional
 
@@ -42,6 +43,16 @@ class Watch:
         self.shapes = list(shapes.values())
         self.first = self.found()
         self.place, self.due = self.next, time.monotonic() + EVERY
+
+    def text(self) -> str:
+        """What was published at the start."""
+        return json.dumps(self.first, separators=(",", ":"))
+
+    def go_on(self, text: str, place: int) -> None:
+        """Goes on from what was published when the log came to a place."""
+        if text:
+            self.first, self.place = json.loads(text), place
+            self.see()
 
     def found(self) -> Dict[str, Any]:
         """What can change, by name."""

@@ -131,8 +131,8 @@ class Postgres:
     def start(self) -> "Postgres":
         """Starts it, again where what a killed server left still ends."""
         settings = {"wal_level": "logical", "listen_addresses": "", "unix_socket_directories": self.folder,
-                    "fsync": "off", "max_wal_senders": 10,
-                    "logging_collector": "off", "shared_buffers": "64MB"}
+                    "fsync": "off", "max_wal_senders": 20, "max_replication_slots": 20,
+                    "max_prepared_transactions": 20, "logging_collector": "off", "shared_buffers": "64MB"}
         words = [word for name, value in settings.items() for word in ("-c", f"{name}={value}")]
         for _ in range(100):
             self.server = self.programs.start(*self.as_user(), f"{self.bin}/postgres", "-D", f"{self.folder}/data",

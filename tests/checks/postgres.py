@@ -42,6 +42,7 @@ from servers import HKREP, kill, waited
 from shown import of
 
 if psycopg2 is not None and redis is not None:
+    import altered_tables
     import capturing
     import catalog
     import configuration
@@ -56,6 +57,7 @@ if psycopg2 is not None and redis is not None:
     from keys import Keys
 
 KILLS, SEED = 20, 69
+STORY = os.environ.get("STORY", "")      # what is in the name of a story, where only some are to be played
 
 
 # ---------------------------------------------------------------- without a server
@@ -379,6 +381,21 @@ def another_table(shop):
     shop.captured(wanted=4, said="begin a log with a new id")
 
 
+def altered(shop):
+    """Each story of altered_tables.py, beside the capture and behind it."""
+    shop.sql("create role other_owner superuser")
+    shop.sql("drop publication shop")
+    wanted = [it for it in altered_tables.STORIES if not STORY or STORY in it.name]
+    with ThreadPoolExecutor(6) as pool:
+        played = [(it.name, way, pool.submit(altered_tables.told_of, shop, shop.folder, it, f"{way}{at}", way))
+                  for at, it in enumerate(wanted) for way in ("beside", "behind")]
+        problems = [f"{name}, {way}: {told}" for name, way, it in played for told in it.result()]
+    if os.environ.get("TOLD"):
+        pathlib.Path(os.environ["TOLD"]).write_text("\n".join(problems))
+    holds(not problems, "; ".join(problems[:3]))
+    return f"{len(wanted)} stories, two ways each"
+
+
 def cut_in_half(shop, count):
     """Kills a capture between two entries of an UPDATE of so many rows: what stands then, up to its last whole entry,
     and the places of its entries."""
@@ -603,7 +620,7 @@ def play(check, words=()):
 
 
 ALONE = (keys_of_a_table, spilled_transactions, times_and_tags, bad_files, texts_of_one_hash)
-SERVED = (kills, halves, losses, another_table, demonstrated, all_changes, values_and_moments, refused_tables,
+SERVED = (kills, altered, halves, losses, another_table, demonstrated, all_changes, values_and_moments, refused_tables,
           changes_that_stop,
           loads_cut_off, idle_places, over_nats, page)
 
