@@ -308,9 +308,10 @@ class Capture:
     def commit(self, it: Commit) -> None:
         """Writes a transaction, and before it what is remembered from it on of the tables: but where a part of it
         stands, for that was written behind what is remembered already."""
-        rows = {} if self.kept.is_cut else self.schemas.rows(self.log.own)
-        if rows:
-            self.log.note(rows)
+        if self.schemas.may_differ and not self.kept.is_cut:
+            rows = self.schemas.rows(self.log.own)
+            if rows:
+                self.log.note(rows)
         self.log.commit(it.end, self.xid, it.clock, self.changes)
         self.kept.is_cut = False
 

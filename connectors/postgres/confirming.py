@@ -1,17 +1,19 @@
 """What is confirmed to PostgreSQL, and how a tail that the log lost is known. Needs python3-psycopg2.
 
-A capture confirms to its slot, and a slot gives nothing again from before that. How far it confirmed is also in a
-replication origin of the slot's name, which a lost tail doesn't take along; the slot's own place doesn't tell it, for
-psycopg2 confirms places by itself in which nothing was (`Source`). For each place the order is:
+A slot gives nothing again from before what was confirmed to it. How far a capture confirmed is also in a replication
+origin of the slot's name, which a lost tail doesn't take along. The slot's own place doesn't tell it, for psycopg2
+confirms places by itself (`Source`). For each place the order is:
 
-1. The log has it on its disk. 2. The origin is brought there, by a transaction that PostgreSQL has on its disk before it
-answers. 3. It is confirmed to the slot.
+1. The log has all up to it on its disk.
+2. The origin is brought there, by a transaction that PostgreSQL has on its disk before it answers.
+3. It is confirmed to the slot.
 
-Killed behind 1, the slot sends again what the log has, which is passed over. Behind 2, the same. A PostgreSQL that
-crashes may forget 3, since slots are saved now and then, but never 2 alone: so where the slot is, the origin is too. The
-origin is never ahead of what the log had on its disk; a log that ends before it lost its tail (3), and where it doesn't
-nothing is lost: what psycopg2 confirmed has nothing in it, or was kept, and the origin brought there, before it was
-read on. Where PostgreSQL is being shut down no origin can be brought anywhere, so nothing is confirmed then.
+Killed behind 1 or 2, the slot sends again what the log has, which is passed over. A PostgreSQL that crashes may forget
+3, since slots are saved now and then, and never 2, so wherever the slot is, the origin is too. In the other order a
+crash could leave a slot ahead of the origin, and a tail that is lost then would be told by nobody. The origin is never
+ahead of what the log had on its disk: a log that ends before it has lost its tail. One that ends at or behind it has
+lost nothing: what psycopg2 confirmed by itself had nothing in it for us, or was kept, and the origin brought there,
+before the next message was read. While PostgreSQL is being shut down it takes no 2, so there is no 3.
 
 Who may not use origins has the rule of before: a slot that is ahead of the log means a lost tail, also where psycopg2
 alone brought it there."""

@@ -1,4 +1,4 @@
-"""The captured tables as they are altered: what is remembered of each stands in table 0 of the log, and whatever can't be
+"""The captured tables as they are altered: what is remembered of each stands in table 0 of the log, and what can't be
 told for sure ends the capture before anything of it is written (4). Needs the package `vadungsil`."""
 from __future__ import annotations
 
@@ -12,8 +12,8 @@ from shapes import Shape
 from vadungsil.postgres import TIMES
 from vadungsil.values import MOST_BODY
 
-# What is remembered of a table stands in pieces from its number times so many on, that of the publication below them, and
-# from there on is what a log remembers.
+# What is remembered of a table stands in pieces from its number times so many on, and that of the publication below
+# them: from there on is all that a log remembers.
 OF_TABLE = 2**32
 OF_PUBLICATION = REMEMBERED = 2**31
 
@@ -29,6 +29,7 @@ class Schemas:
         self.catalog = catalog
         self.memories: Dict[int, Memory] = {}
         self.publication = ""  # what was published, as a text
+        self.may_differ = True  # from what stands in the log
         self.era = 0
 
     # ------------------------------------------------------------ table 0
@@ -47,7 +48,8 @@ class Schemas:
                 self.publication = text
 
     def rows(self, own: Dict[int, bytes]) -> Rows:
-        """What is remembered otherwise than it stands in the log."""
+        """What is remembered otherwise than it stands in the log, where rows are written to."""
+        self.may_differ = False
         texts = {number * OF_TABLE: memory.text() for number, memory in self.memories.items()}
         texts[OF_PUBLICATION] = self.publication
         wanted: Dict[int, bytes] = {}
@@ -69,7 +71,7 @@ class Schemas:
         """Begins an era of a table, behind so many transactions of the log. Where `is_cut`, the transaction stands in
         part: what was remembered when it was written is what counts."""
         self.era += 1
-        shape.era = self.era
+        shape.era, self.may_differ = self.era, True
         number, said = shape.table.number, said_of(it)
         memory = self.memories.get(number)
         if memory is None:

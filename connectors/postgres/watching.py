@@ -18,7 +18,7 @@ pubviaroot, puballtables, pubowner::bigint, xmin::text from pg_publication where
 
 # a table, and each entry of the publication that has it, itself or as a partition or by its schema
 _TABLES = """select c.oid::bigint, relpersistence, array(
-    select r.oid::text || coalesce(' columns ' || prattrs::text, '') || coalesce(' where ' || pg_get_expr(prqual, prrelid), '')
+    select concat(r.oid, ' columns ' || prattrs::text, ' where ' || pg_get_expr(prqual, prrelid))
     from pg_publication_rel r join pg_publication p on p.oid = prpubid and pubname = %s
     where prrelid = c.oid or prrelid in (select relid from pg_partition_ancestors(c.oid)) order by 1), array(
     select n.oid::text from pg_publication_namespace n join pg_publication p on p.oid = pnpubid and pubname = %s
@@ -74,8 +74,8 @@ class Watch:
         if told:
             raise Broken(
                 BAD,
-                f"{told} by now, and wasn't up to {place_of(self.place)}: from there on nothing in the log can be relied"
-                " on. Begin a log with a new id",
+                f"{told} by now, and wasn't up to {place_of(self.place)}: from there on the log can't be relied on. "
+                "Begin a log with a new id",
             )
         self.place = self.next
 

@@ -47,6 +47,7 @@ if psycopg2 is not None and redis is not None:
     import catalog
     import configuration
     import log
+    import lost_tails
     import reference
     import shapes
     import source
@@ -396,6 +397,12 @@ def altered(shop):
     return f"{len(wanted)} stories, two ways each"
 
 
+def tails(shop, story=None, count=20_000, rounds=3):
+    """A tail that only looks lost is told by nobody, and one that is lost is."""
+    at, ahead = lost_tails.played(shop, story, count, rounds)
+    return f"{story.name}, {at} rounds of {count} rows, in {ahead} of them psycopg2 confirmed by itself"
+
+
 def cut_in_half(shop, count):
     """Kills a capture between two entries of an UPDATE of so many rows: what stands then, up to its last whole entry,
     and the places of its entries."""
@@ -432,7 +439,7 @@ def halves(shop):
         shop.same(node)
     shop.captured(wanted=3, said="lost its tail")
     shop.sql("select pg_drop_replication_slot('vadungsil_7'); select pg_copy_logical_replication_slot('saved', "
-             "'vadungsil_7')")
+             "'vadungsil_7'); select pg_replication_origin_drop('vadungsil_7')")
     shop.captured()
     shop.same()
     whole = shop.file.read_bytes()
@@ -620,7 +627,7 @@ def play(check, words=()):
 
 
 ALONE = (keys_of_a_table, spilled_transactions, times_and_tags, bad_files, texts_of_one_hash)
-SERVED = (kills, altered, halves, losses, another_table, demonstrated, all_changes, values_and_moments, refused_tables,
+SERVED = (kills, altered, tails, halves, losses, another_table, demonstrated, all_changes, values_and_moments, refused_tables,
           changes_that_stop,
           loads_cut_off, idle_places, over_nats, page)
 
@@ -630,6 +637,15 @@ def lacking():
     if psycopg2 is None:
         return "python3-psycopg2 and python3-redis"
     return "postgresql" if servers.postgres_folder() is None else "" if shutil.which("redis-server") else "redis-server"
+
+
+def checks_of(chosen, numbers):
+    """The checks that were chosen, with their words: numbers are those of the kills, or how many rows and rounds the tails have."""
+    for it in SERVED:
+        if it.__name__ in chosen and it is tails:
+            yield from ((it, (story, *numbers)) for story in lost_tails.STORIES if STORY in story.name)
+        elif it.__name__ in chosen:
+            yield it, numbers if it is kills else ()
 
 
 def main(words):
@@ -648,7 +664,7 @@ def main(words):
         skip("no nats-server from 2.10.27 on is here: a capture into NATS", needed=False)
         chosen.remove("over_nats")
     with ThreadPoolExecutor(3) as pool:
-        played = [pool.submit(play, it, numbers if it is kills else ()) for it in SERVED if it.__name__ in chosen]
+        played = [pool.submit(play, it, words) for it, words in checks_of(chosen, numbers)]
         for it in played:
             report(*it.result())
     return ended()
