@@ -13,7 +13,7 @@ from keys import Births, Place
 from shapes import Written
 from spilling import Spilling
 from vadungsil import LogWriter, encode
-from vadungsil.postgres import COMMIT, OWN, TIMES, Long, digest_of, last_time, long_of
+from vadungsil.postgres import COMMIT, OWN, TIMES, Long, key_and_check, last_time, long_of
 from vadungsil.values import MOST_BODY, MOST_WRITES
 
 # what a body that stands in parts begins with
@@ -331,4 +331,4 @@ def check_of(body: bytes, long: Optional[Long]) -> int:
     if key is None:
         text = body.decode()
         key = scanstring(text, scanstring(text, 2)[1] + 2)[0]
-    return int.from_bytes(digest_of(key)[8:], "big")
+    return key_and_check(key)[1]

@@ -9,7 +9,7 @@ from typing import Any, Dict, List, NamedTuple, Optional, Sequence, Tuple
 from configuration import BAD, Broken, Table
 from pgoutput import UNCHANGED, Unchanged, Values
 from remembering import Past
-from vadungsil.postgres import digest_of, key_of, tag_of
+from vadungsil.postgres import key_and_check, key_of, tag_of
 
 # how a value of a type stands in a body: as PostgreSQL prints it where that is JSON, else as a text
 NUMBERS = {"int2", "int4", "int8", "oid"}
@@ -151,8 +151,7 @@ class Shape:
             raise Broken(BAD, f"a row of {self.table.name} came without its key {self.table.key}")
         if not self.is_hashed:
             return key_of(int(value)), 0
-        digest = digest_of(value)
-        return int.from_bytes(digest[:8], "big"), int.from_bytes(digest[8:], "big")
+        return key_and_check(value)
 
     def tag(self, values: Values) -> int:
         if self.tag_at < 0:
