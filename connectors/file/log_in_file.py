@@ -4,6 +4,7 @@ readers wait for the rest. Standard library only."""
 from __future__ import annotations
 
 import argparse
+import errno
 import fcntl
 import os
 import pathlib
@@ -22,6 +23,7 @@ from feeding import LEAST_REST, MOST_REST  # noqa: E402
 
 _TWO = (1, 2)  # versions, and kinds
 _HEAD, _PLACE = struct.Struct(">IBBQHQQ").unpack_from, struct.Struct(">QH").pack
+FULL = (errno.ENOSPC, errno.EDQUOT)
 # how much is looked at and how many blocks are read at once, and how long a reader sleeps in between, in seconds
 PIECE, BLOCKS, PAUSE = 1 << 20, 16, 0.01
 
@@ -118,8 +120,8 @@ class LogInFile(EngineLog):
         self.rest = 0  # bytes behind what is whole
 
     def is_passing(self, error: BaseException) -> bool:
-        """Whether the file isn't there yet."""
-        return isinstance(error, FileNotFoundError)
+        """Whether the file isn't there yet, or its disk is full."""
+        return isinstance(error, FileNotFoundError) or (isinstance(error, OSError) and error.errno in FULL)
 
     def drop(self) -> None:
         if self.file >= 0:
@@ -221,8 +223,12 @@ class LogInFile(EngineLog):
             raise Moved
         data = b"".join(block.data for block in blocks)
         left = memoryview(data)
-        while left:
-            left = left[os.write(self.file, left) :]
+        try:
+            while left:
+                left = left[os.write(self.file, left) :]
+        except OSError:
+            os.ftruncate(self.file, behind)  # a part of it helps nobody, and the next try begins with none
+            raise
         self.places.add(data)
         if self.fsync:
             os.fsync(self.file)

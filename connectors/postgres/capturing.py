@@ -122,7 +122,7 @@ class Capture:
         self.origin.drop()
         self.log.load_begin(self.own_rows())
         self.kept.flush()
-        lsn, snapshot = self.source.make_slot()
+        lsn, snapshot = self.source.make_slot(self.patience.say)
         loading = Changes()
 
         def take(shape: Shape, values: List[Value]) -> None:

@@ -13,7 +13,8 @@ from catalog import Catalog, connected, is_ready, names_of
 from configuration import BAD, Broken, Configuration
 from pgoutput import Decoder, Message, Value
 from shapes import Shape
-from vadungsil.postgres import lsn_of, place_of
+from vadungsil.postgres import lsn_of
+from waiting import Waiting
 
 # how long a silent link may be, in seconds, before the server is told that we live; it gives up after 60
 ALIVE = 10.0
@@ -57,11 +58,12 @@ class Source:
 
     # ------------------------------------------------------------ the rows that stand
 
-    def make_slot(self) -> Tuple[int, str]:
+    def make_slot(self, say: Callable[[str], None]) -> Tuple[int, str]:
         """Makes the slot: from where it sends transactions, and the name of a snapshot that has all from before. The
-        snapshot is there until the next command over this connection."""
+        snapshot is there until the next command over this connection. What PostgreSQL waits for is said."""
         cursor = self.open()
-        cursor.execute(f"CREATE_REPLICATION_SLOT {self.said.slot} LOGICAL pgoutput EXPORT_SNAPSHOT")
+        with Waiting(self.said, self.link.info.backend_pid, say):
+            cursor.execute(f"CREATE_REPLICATION_SLOT {self.said.slot} LOGICAL pgoutput EXPORT_SNAPSHOT")
         _, point, snapshot, _ = cursor.fetchone()
         return lsn_of(point), snapshot
 

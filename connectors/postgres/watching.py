@@ -29,8 +29,8 @@ _SAID = ("inserts", "updates", "deletes", "truncates", "publish_via_partition_ro
 
 
 class Watch:
-    """What a publication was at the start, held against what it is. `place`: up to where all was published, by the last
-    look."""
+    """What a publication was at the start, held against what it is. `place`: up to where all was published, as far as
+    is known; `next`: where the last look was."""
 
     def __init__(self, said: Configuration, catalog: Catalog) -> None:
         self.said, self.catalog = said, catalog
@@ -42,7 +42,7 @@ class Watch:
     def begin(self, shapes: Dict[str, Shape]) -> None:
         self.shapes = list(shapes.values())
         self.first = self.found()
-        self.place, self.due = self.next, time.monotonic() + EVERY
+        self.see()
 
     def text(self) -> str:
         """What was published at the start."""
@@ -68,8 +68,8 @@ class Watch:
         return it
 
     def see(self) -> None:
-        """4 where it isn't what it was. The place is that of a look before this one: up to there it was."""
-        self.due = time.monotonic() + EVERY
+        """4 where it isn't what it was. A place that was asked for before a look that finds all well was well."""
+        before, self.due = self.next, time.monotonic() + EVERY
         told = self.told(self.found())
         if told:
             raise Broken(
@@ -77,7 +77,7 @@ class Watch:
                 f"{told} by now, and wasn't up to {place_of(self.place)}: from there on the log can't be relied on. "
                 "Begin a log with a new id",
             )
-        self.place = self.next
+        self.place = before
 
     def told(self, now: Dict[str, Any]) -> str:
         """What is otherwise, in words."""
