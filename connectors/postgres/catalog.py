@@ -66,11 +66,13 @@ def is_ready(link: Any, seconds: float) -> bool:
 
 # the slot is read by another, and the server is being shut down, has crashed or starts
 PASSING = ("55006", "57P01", "57P02", "57P03")
+# what decoding says behind a crash, now and then, of a table that was emptied; a new connection goes on
+UNMAPPED = "could not map filenode"
 
 
 def is_passing(error: psycopg2.Error) -> bool:
     """Whether PostgreSQL is away, starts, or still has the connection of a capture that was killed."""
-    is_link = isinstance(error, (psycopg2.OperationalError, psycopg2.InterfaceError))
+    is_link = isinstance(error, (psycopg2.OperationalError, psycopg2.InterfaceError)) or UNMAPPED in str(error)
     return is_link or error.pgcode in PASSING or (error.pgcode is None and isinstance(error, psycopg2.DatabaseError))
 
 

@@ -33,7 +33,8 @@ GONE, KEY, NOT = "did not change and isn't sent, and since the row was written t
 
 
 class Story(NamedTuple):
-    """`said`: what a capture says that ends with 4, "" where it goes on; `behind`: the same where all is done before it comes, None for the same."""
+    """`said`: what a capture says that ends with 4, "" where it goes on; `behind`: the same where all is done before it comes, None for the same.
+    `adopts`: what is done first where the log is one of before, which remembers nothing."""
     name: str
     made: str
     steps: Tuple[str, ...]
@@ -42,23 +43,28 @@ class Story(NamedTuple):
     publication: str = "for table t"
     more: str = ""
     behind: object = None
+    adopts: str = ""
+
+    def ways(self):
+        return ["beside", "behind", *(["adopted"] if self.adopts else [])]
 
 
 STORIES = (
     # long values, which PostgreSQL doesn't send where they did not change
     Story("long values that did not change", ROWS, (TOUCH, "update t set id = id + 100 where id <= 2", "update t set n = 0, big = 'x' where id = 3", TOUCH)),
-    Story("a long column renamed", ROWS, ("alter table t rename big to grown", TOUCH)),
+    Story("a long column renamed", ROWS, ("alter table t rename big to grown", TOUCH), adopts=TOUCH),
     Story("a long column renamed twice, rows in between", ROWS,
           ("alter table t rename big to grown", TOUCH + " where id < 3", "alter table t rename grown to large", TOUCH)),
     Story("long columns swapped", ROWS,
-          ("alter table t rename big to tmp", "alter table t rename big2 to big", "alter table t rename tmp to big2", TOUCH)),
+          ("alter table t rename big to tmp", "alter table t rename big2 to big", "alter table t rename tmp to big2", TOUCH), adopts=TOUCH),
     Story("long columns swapped, and back", ROWS,
           ("begin; alter table t rename big to tmp; alter table t rename big2 to big; alter table t rename tmp to big2; commit", TOUCH + " where id < 3",
            "begin; alter table t rename big to tmp; alter table t rename big2 to big; alter table t rename tmp to big2; commit", TOUCH)),
     Story("long columns swapped in the transaction of the rows", ROWS,
           ("begin; update t set n = 7, big = big || 'x' where id < 3; alter table t rename big to tmp; alter table t rename big2 to big; "
            "alter table t rename tmp to big2; update t set n = n + 1; commit", TOUCH)),
-    Story("a long column of another type, written anew", ROWS, ("alter table t alter big type text using upper(big)", TOUCH), GONE),
+    Story("a long column of another type, written anew", ROWS, ("alter table t alter big type text using upper(big)", TOUCH), GONE,
+          adopts=TOUCH),
     Story("a long column written anew, behind a row", ROWS, (TOUCH, "alter table t alter big type text using upper(big)", TOUCH), GONE),
     Story("a long column written anew and in each row since", ROWS,
           ("alter table t alter big type text using upper(big)", "update t set big = big || 'x'")),
@@ -205,8 +211,9 @@ feeding.Patience.say = lambda self, text: None      # of captures of this proces
 class Captured(threading.Thread):
     """A capture into a file, up to a place that may be set later. `told`: its status and what it said."""
 
-    def __init__(self, configured, file, until=2 ** 63):
+    def __init__(self, configured, file, until=2 ** 63, remembers=True):
         super().__init__(daemon=True)
+        self.remembers = remembers
         self.configured, self.file, self.until, self.capture, self.told = configured, file, until, None, None
 
     def run(self):
@@ -215,6 +222,8 @@ class Captured(threading.Thread):
             try:
                 self.capture = None
                 capture = capturing.Capture(configuration.read(str(self.configured)), KeptByEngine(store, 60), self.until)
+                if not self.remembers:
+                    capture.schemas.rows = lambda own: {}
                 capture.begin()
                 self.capture = capture
                 capture.run()
@@ -265,18 +274,32 @@ def captured_beside(it):
     return child.ended(place)
 
 
-def captured_behind(it):
-    """A capture that ends once the rows are loaded, and another one when all is done."""
-    first = Captured(it.configuration, it.file, 1)
-    first.start()
-    told = first.ended(1)
+def captured_up(it, place, remembers=True):
+    """A capture up to a place."""
+    child = Captured(it.configuration, it.file, place, remembers)
+    child.start()
+    return child.ended(place)
+
+
+def captured_behind(it, remembers=True):
+    """A capture that ends once the rows are loaded, and another one when all is done. Where the first remembers nothing, as those of before, one in between
+    adopts what is."""
+    told = captured_up(it, 1, remembers)
     holds(told[0] == 0, f"the load: {told}")
+    if not remembers:
+        it.sql(it.story.adopts)
+        told = captured_up(it, beat(it))
+        holds(told[0] == 0, f"what adopts: {told}")
     for step in it.story.steps:
         it.sql(step)
-    place = beat(it)
-    second = Captured(it.configuration, it.file, place)
-    second.start()
-    return second.ended(place)
+    return captured_up(it, beat(it))
+
+
+def captured_adopted(it):
+    return captured_behind(it, False)
+
+
+WAYS = {"beside": captured_beside, "behind": captured_behind, "adopted": captured_adopted}
 
 
 def differences_of(it, node):
@@ -294,7 +317,7 @@ def told_of(shop, folder, story, name, way):
     """What went otherwise than a story says, one way."""
     it = Played(shop.postgres, folder, story, name)
     try:
-        status, said = (captured_beside if way == "beside" else captured_behind)(it)
+        status, said = WAYS[way](it)
         wanted = story.said if way == "beside" or story.behind is None else story.behind
         wanted = wanted.replace("{s}", it.names["s"]).replace("{p}", it.names["p"])
         if wanted:

@@ -7,6 +7,7 @@ as many as are asked for) are kill -9 of the capture, PostgreSQL, Redis or the n
 draws; after each, a snapshot's moment is compared. Needs bin/hkrep, postgresql, python3-psycopg2, redis-server and
 python3-redis; where one isn't installed, that is said as skipped. It ends only what it started."""
 import contextlib
+import errno
 import importlib.util
 import os
 import pathlib
@@ -46,16 +47,20 @@ if psycopg2 is not None and redis is not None:
     import capturing
     import catalog
     import configuration
+    import keeping
     import log
+    import log_in_file
     import lost_tails
     import reference
     import shapes
     import source
     import spilling
+    import vadungsil
     import vadungsil.postgres as va
     from captured_shop import (LIMIT, LOG, TABLES, Kills, Shop, holds, places_of)
     from configuration import Broken
     from keys import Keys
+    from log_in_file import LogInFile
 
 KILLS, SEED = 20, 69
 STORY = os.environ.get("STORY", "")      # what is in the name of a story, where only some are to be played
@@ -171,6 +176,33 @@ def texts_of_one_hash():
         shapes.key_and_check = names
     wanted = 'public.files: name "{}" has the hash 0, which another name has too; such a table can\'t be captured'
     return differ([("two texts of one hash", problems, [wanted.format("other"), wanted.format("one"), ""])])
+
+
+def full_disks():
+    """A disk that is full is waited for, and nothing of a part of a block is left."""
+    frame, write, truncated = vadungsil.encode(vadungsil.Entry.of(LOG, 1, 1, 5, rows=[(1, 1, 0, b"x" * 99)])), os.write, []
+    with tempfile.TemporaryDirectory() as folder:
+        path = pathlib.Path(folder) / "a.log"
+        store, tries = LogInFile(str(path), LOG), []
+
+        def full(file, data):
+            """Takes a part, then nothing, and all once it was tried three times."""
+            tries.append(len(data))
+            if len(tries) in (2, 3, 4):
+                truncated.append(path.stat().st_size)
+                raise OSError(errno.ENOSPC, "No space left on device")
+            return write(file, data[:10] if len(tries) == 1 else data)
+        kept = keeping.KeptByEngine(store, 60)
+        kept.publisher.patience.say = lambda text: said.append(text)
+        said = []
+        log_in_file.os.write = full
+        try:
+            kept.put(frame)
+            kept.flush()
+        finally:
+            log_in_file.os.write = write
+        return differ([("the file", path.read_bytes(), frame), ("tries", len(tries), 5), ("what stood before each", truncated, [10, 0, 0]),
+                       ("what is said", [it for it in said if "No space" in it], ["OSError: [Errno 28] No space left on device; trying again"])])
 
 
 def collision(shape, first, second):
@@ -389,12 +421,12 @@ def altered(shop):
     wanted = [it for it in altered_tables.STORIES if not STORY or STORY in it.name]
     with ThreadPoolExecutor(6) as pool:
         played = [(it.name, way, pool.submit(altered_tables.told_of, shop, shop.folder, it, f"{way}{at}", way))
-                  for at, it in enumerate(wanted) for way in ("beside", "behind")]
+                  for at, it in enumerate(wanted) for way in it.ways()]
         problems = [f"{name}, {way}: {told}" for name, way, it in played for told in it.result()]
     if os.environ.get("TOLD"):
         pathlib.Path(os.environ["TOLD"]).write_text("\n".join(problems))
     holds(not problems, "; ".join(problems[:3]))
-    return f"{len(wanted)} stories, two ways each"
+    return f"{len(wanted)} stories, each in two ways at least"
 
 
 def tails(shop, story=None, count=20_000, rounds=3):
@@ -626,7 +658,7 @@ def play(check, words=()):
     return f"{check.__name__.replace('_', ' ')} ({time.monotonic() - begin:.1f} s)", problems, told
 
 
-ALONE = (keys_of_a_table, spilled_transactions, times_and_tags, bad_files, texts_of_one_hash)
+ALONE = (keys_of_a_table, spilled_transactions, times_and_tags, bad_files, texts_of_one_hash, full_disks)
 SERVED = (kills, altered, tails, halves, losses, another_table, demonstrated, all_changes, values_and_moments, refused_tables,
           changes_that_stop,
           loads_cut_off, idle_places, over_nats, page)
