@@ -30,8 +30,8 @@ def told_of(found: List[Tuple[str, Any]]) -> str:
 
 
 class Waiting(threading.Thread):
-    """Says what is waited for, over a connection of its own, for as long as it is entered. `pid`: of the connection that
-    waits."""
+    """Says what is waited for, over a connection of its own, for as long as it is entered. `pid`: of the connection
+    that waits."""
 
     def __init__(self, said: Configuration, pid: int, say: Callable[[str], None]) -> None:
         super().__init__(daemon=True)

@@ -45,6 +45,12 @@ class Story(NamedTuple):
     behind: object = None
     adopts: str = ""
 
+    def row(self):
+        """The row of the page, of a story that stops a capture."""
+        at_once = "stops" if self.said else "goes on"
+        away = at_once if self.behind is None else "stops"
+        return f"| {self.name} | {at_once} | {away} |"
+
     def ways(self):
         return ["beside", "behind", *(["adopted"] if self.adopts else [])]
 
@@ -63,16 +69,16 @@ STORIES = (
     Story("long columns swapped in the transaction of the rows", ROWS,
           ("begin; update t set n = 7, big = big || 'x' where id < 3; alter table t rename big to tmp; alter table t rename big2 to big; "
            "alter table t rename tmp to big2; update t set n = n + 1; commit", TOUCH)),
-    Story("a long column of another type, written anew", ROWS, ("alter table t alter big type text using upper(big)", TOUCH), GONE,
+    Story("a long column altered by `using`, then a row that doesn't set it", ROWS, ("alter table t alter big type text using upper(big)", TOUCH), GONE,
           adopts=TOUCH),
-    Story("a long column written anew, behind a row", ROWS, (TOUCH, "alter table t alter big type text using upper(big)", TOUCH), GONE),
-    Story("a long column written anew and in each row since", ROWS,
+    Story("the same, and rows before it", ROWS, (TOUCH, "alter table t alter big type text using upper(big)", TOUCH), GONE),
+    Story("a long column altered by `using`, then set in each row", ROWS,
           ("alter table t alter big type text using upper(big)", "update t set big = big || 'x'")),
-    Story("a long column written anew, with replica identity full", ROWS,
+    Story("a long column altered by `using`, with replica identity full", ROWS,
           ("alter table t replica identity full", TOUCH, "alter table t alter big type text using upper(big)", TOUCH)),
-    Story("a long column of another type, not written anew", ROWS, ("alter table t alter big type varchar using big::varchar", TOUCH)),
+    Story("a long column from text to varchar", ROWS, ("alter table t alter big type varchar using big::varchar", TOUCH)),
     Story("a long column dropped and added", ROWS, ("alter table t drop big, add big text", TOUCH)),
-    Story("a long column dropped, the next one under its name", ROWS,
+    Story("a long column dropped, another renamed to its name, one added, and no row in between", ROWS,
           ("alter table t drop big", "alter table t rename big2 to big", "alter table t add big2 text", TOUCH), GONE),
     Story("a long column dropped", ROWS, (TOUCH + " where id < 3", "alter table t drop big", TOUCH)),
     Story("a column added, filled, another added", ROWS,
@@ -80,21 +86,21 @@ STORIES = (
     Story("a column added and filled in one transaction", ROWS, (f"begin; alter table t add doc text; update t set doc = {LONG % 'id'}; {TOUCH}; commit", TOUCH)),
     Story("a default and not null of a long column", ROWS, ("alter table t alter big set default 'x', alter big set not null", TOUCH)),
     Story("VACUUM FULL", ROWS, (TOUCH, "vacuum full t", TOUCH)),
-    Story("VACUUM FULL, and a long column renamed", ROWS, ("vacuum full t", TOUCH, "alter table t rename big to grown", TOUCH), "", behind=GONE),
-    Story("another column written anew", ROWS, ("alter table t alter n type bigint using n * 2", TOUCH)),
+    Story("VACUUM FULL and a long column renamed, rows in between", ROWS, ("vacuum full t", TOUCH, "alter table t rename big to grown", TOUCH), "", behind=GONE),
+    Story("another column altered by `using`", ROWS, ("alter table t alter n type bigint using n * 2", TOUCH)),
     Story("TRUNCATE, a default, new rows", ROWS,
           ("truncate t", "alter table t alter n set default 5", f"insert into t values (1, 1, {LONG % '1'}, null)", TOUCH)),
     # short values come with each row
     Story("short columns renamed", SHORT, ("alter table t rename a to c", "update t set b = 7", "alter table t rename b to a", "update t set c = 'y'")),
     Story("a short column dropped and added", SHORT, ("alter table t drop a, add a int default 7", "update t set b = b + 1")),
-    Story("a short column written anew, then each row", SHORT, ("alter table t alter b type text using 'v' || b", "update t set a = 'x'")),
+    Story("a short column altered by `using`, then each row", SHORT, ("alter table t alter b type text using 'v' || b", "update t set a = 'x'")),
     Story("a column added with a default that is drawn", SHORT, ("alter table t add r float8 default random()", "update t set a = 'b'")),
-    Story("a generated column added", SHORT, ("alter table t add g int generated always as (b * 2) stored", "update t set b = b + 1"),
+    Story("a generated column added to a table without `columns`", SHORT, ("alter table t add g int generated always as (b * 2) stored", "update t set b = b + 1"),
           behind="column g of {s}.t is generated"),
     # keys
-    Story("the key's type, from integer to bigint, by other values", "create table t(id int primary key, n int); insert into t values (1, 1), (2, 2)",
+    Story("the key from integer to bigint by `using id + 100`", "create table t(id int primary key, n int); insert into t values (1, 1), (2, 2)",
           ("alter table t alter id type bigint using id + 100", TOUCH), KEY),
-    Story("the key written anew with its type", "create table t(id bigint primary key, n int); insert into t values (1, 1), (2, 2)",
+    Story("the key altered by `using id + 100`", "create table t(id bigint primary key, n int); insert into t values (1, 1), (2, 2)",
           ("alter table t alter id type bigint using id + 100", TOUCH), KEY),
     Story("the key from integer to bigint", "create table t(id int primary key, n int); insert into t values (1, 1), (2, 2)",
           ("alter table t alter id type bigint", TOUCH), KEY),
@@ -102,7 +108,7 @@ STORIES = (
           ("alter table t alter k type uuid using k::uuid", "update t set v = 2"), "the key k of", "k"),
     Story("the key from char(5) to text", "create table t(k char(5) primary key, v int); insert into t values ('ab', 1), ('cd', 2)",
           ("alter table t alter k type text", "update t set v = v + 1"), "the key k of", "k"),
-    Story("the key in small letters", TEXTS, ("alter table t alter k type text using lower(k)", "update t set v = 2"), "the key k of", "k"),
+    Story("the key altered by `using lower(k)`", TEXTS, ("alter table t alter k type text using lower(k)", "update t set v = 2"), "the key k of", "k"),
     Story("the key from text to varchar", TEXTS, ("alter table t alter k type varchar", "update t set v = 2"), "", "k"),
     Story("the key renamed", SHORT, ("alter table t rename id to number", "update t set b = 7"), "table {s}.t has no column id"),
     Story("the key renamed, and back", SHORT, ("alter table t rename id to number", "alter table t rename number to id", "update t set b = 7")),
@@ -111,7 +117,7 @@ STORIES = (
           "the key id of {s}.t may be another column than it was"),
     Story("the key dropped and added", "create table t(id int primary key, n int); insert into t values (1, 1)",
           ("alter table t drop id, add id serial primary key", TOUCH), KEY),
-    Story("a default of the key, and VACUUM FULL", SHORT,
+    Story("a default of the key and VACUUM FULL, rows in between", SHORT,
           ("alter table t alter id set default 5", "update t set b = 7", "vacuum full t", "update t set b = 8"), "", behind=KEY),
     Story("the key from a whole number to a text", SHORT, ("alter table t alter id type text", "update t set b = 7"), "the key id of {s}.t has the type text",
           behind="the log was begun with"),
@@ -130,7 +136,7 @@ STORIES = (
     Story("another table under its name", SHORT,
           ("drop table t; create table t(id bigint primary key, a text, b int); alter publication {p} add table t; insert into t values (2, 'x', 2)",), "is another table from here on|is gone",
           behind="the log was begun with"),
-    Story("a partition detached", LEAF, ("update pt set id = 160 where id = 1", "update pt set id = 2 where id = 150", "alter table pt detach partition t",
+    Story("a partition detached, and emptied by TRUNCATE", LEAF, ("update pt set id = 160 where id = 1", "update pt set id = 2 where id = 150", "alter table pt detach partition t",
                                          "update t set a = 9", "truncate t"), behind=KEY),
     Story("a table that inherits", "create table t(id int primary key, a int); create table ch() inherits (t); insert into t values (1, 1); "
                                    "insert into ch values (2, 2)", ("update t set a = a + 1", "truncate only t"), publication="for table only t"),
@@ -154,7 +160,7 @@ STORIES = (
     Story("updates left out, and set back", SHORT, ("alter publication {p} set (publish = 'insert'); update t set a = 'lost'; "
                                                     "alter publication {p} set (publish = 'insert, update, delete, truncate')",),
           "publication {p} was altered, and perhaps set back"),
-    Story("published as the table above", LEAF, ("alter publication {p} set (publish_via_partition_root = true)", "insert into pt values (2, 2)"),
+    Story("a partition published as its root", LEAF, ("alter publication {p} set (publish_via_partition_root = true)", "insert into pt values (2, 2)"),
           "publication {p} has publish_via_partition_root = true", publication="for table pt", behind="publication {p} has no {s}.t"),
     Story("the publication dropped", SHORT, ("drop publication {p}",), "publication {p} is gone", behind="there is no publication {p}"),
     Story("another owner, and another table published", SHORT,

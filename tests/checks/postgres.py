@@ -205,6 +205,13 @@ def full_disks():
                        ("what is said", [it for it in said if "No space" in it], ["OSError: [Errno 28] No space left on device; trying again"])])
 
 
+def told_stops():
+    """docs/POSTGRESQL.md has each story that stops a capture, and no other."""
+    page = (ROOT / "docs" / "POSTGRESQL.md").read_text()
+    rows = [line for line in page.split("| What is done |")[1].split("\n\n")[0].splitlines() if line.startswith("| ") and "---" not in line]
+    return differ([("the rows of the page", rows, [it.row() for it in altered_tables.STORIES if "stops" in it.row()])])
+
+
 def collision(shape, first, second):
     """What is said of a row beside another that came in the same transaction, and that stands."""
     told = []
@@ -658,7 +665,7 @@ def play(check, words=()):
     return f"{check.__name__.replace('_', ' ')} ({time.monotonic() - begin:.1f} s)", problems, told
 
 
-ALONE = (keys_of_a_table, spilled_transactions, times_and_tags, bad_files, texts_of_one_hash, full_disks)
+ALONE = (keys_of_a_table, spilled_transactions, times_and_tags, bad_files, texts_of_one_hash, full_disks, told_stops)
 SERVED = (kills, altered, tails, halves, losses, another_table, demonstrated, all_changes, values_and_moments, refused_tables,
           changes_that_stop,
           loads_cut_off, idle_places, over_nats, page)
