@@ -87,7 +87,7 @@ class Capture:
         self.log.begin(self.kept.number, self.kept.time)
         if not self.origin.is_allowed:
             self.patience.say(
-                "this user may not use replication origins, so a lost tail may be told where none is: grant execute on "
+                "this user may not use replication origins, so a lost tail may be reported where none is: grant execute on "
                 f"function {', '.join(RIGHTS)}"
             )
         if not self.log.standing.transaction:
@@ -330,7 +330,7 @@ class Capture:
                 self.source.confirm(self.flushed)
 
     def is_watched(self) -> bool:
-        """Whether all is published (4 where it isn't); it can't be told where PostgreSQL is away."""
+        """Whether all is published (4 where it isn't); False too where PostgreSQL is away."""
         try:
             self.watch.see()
             return True

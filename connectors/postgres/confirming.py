@@ -1,7 +1,7 @@
 """What is confirmed to PostgreSQL, and how a tail that the log lost is known. Needs python3-psycopg2.
 
 A slot gives nothing again from before what was confirmed to it. How far a capture confirmed is also in a replication
-origin of the slot's name, which a lost tail doesn't take along. The slot's own place doesn't tell it, for psycopg2
+origin of the slot's name, which a lost tail doesn't take along. The slot's own place doesn't show it, for psycopg2
 confirms places by itself (`Source`). For each place the order is:
 
 1. The log has all up to it on its disk.
@@ -10,7 +10,7 @@ confirms places by itself (`Source`). For each place the order is:
 
 Killed behind 1 or 2, the slot sends again what the log has, which is passed over. A PostgreSQL that crashes may forget
 3, since slots are saved now and then, and never 2, so wherever the slot is, the origin is too. In the other order a
-crash could leave a slot ahead of the origin, and a tail that is lost then would be told by nobody. The origin is never
+crash could leave a slot ahead of the origin, and a tail that is lost then would be seen by nobody. The origin is never
 ahead of what the log had on its disk: a log that ends before it has lost its tail. One that ends at or behind it has
 lost nothing: what psycopg2 confirmed by itself had nothing in it for us, or was kept, and the origin brought there,
 before the next message was read. While PostgreSQL is being shut down it takes no 2, so there is no 3.

@@ -1,8 +1,9 @@
-"""What is remembered of the columns of a table, so that an altered table is never told wrong. Standard library only.
+"""What is remembered of the columns of a table, so that no row of an altered table is another than
+PostgreSQL's. Standard library only.
 
 PostgreSQL names the columns of a row and doesn't number them, and says nothing of a table that was written anew. But
 before the first change behind any ALTER it describes the table again: an era of the table begins. In one era a name is
-one column. From one era to the next the catalogue tells which column it is: by its number, which no other column ever
+one column. From one era to the next the catalogue shows which column it is: by its number, which no other column ever
 gets; by `mark`, the transaction that wrote the column's row last; and by `file`, where the table's rows are, which is
 another one wherever they were written anew. The catalogue is of now and the description of then, so:
 
@@ -10,7 +11,7 @@ another one wherever they were written anew. The catalogue is of now and the des
 - Where no column was dropped, and each that was added is there, the columns of the description are the first of now.
 - A column with another mark and with another type or file was altered at some place up to that of the look. Its values
   of before aren't used: of eras before this one, nor of those up to that place, nor of the last one before it.
-- What can't be told so has no number, and no value from before its era."""
+- What isn't sure by these has no number, and no value from before its era."""
 from __future__ import annotations
 
 import json
@@ -132,7 +133,7 @@ class Memory:
         self.altered.update({number: look.place for number in altered})
 
     def numbers(self, said: List[Said], look: Look, place: int) -> List[Optional[int]]:
-        """The number of each column of a description, where it can be told."""
+        """The number of each column of a description, where it is sure."""
         era, now = [number for number, _ in self.columns], list(look.columns)
         is_plain = look.live.issuperset(range(self.most + 1, look.most + 1)) and now[: len(era)] == era
         if is_plain and len(era) <= len(said) <= len(now):

@@ -1,5 +1,5 @@
-"""The captured tables as they are altered: what is remembered of each stands in table 0 of the log, and what can't be
-told for sure ends the capture before anything of it is written (4). Needs the package `vadungsil`."""
+"""The captured tables as they are altered: what is remembered of each stands in table 0 of the log, and what isn't
+sure ends the capture before anything of it is written (4). Needs the package `vadungsil`."""
 from __future__ import annotations
 
 from typing import Dict, List, Optional
@@ -117,7 +117,7 @@ class Schemas:
     @staticmethod
     def names(shape: Shape, lacking: List[str], born: Optional[int], era: int) -> Dict[str, str]:
         """The names that columns had in a row of the log, which was born then, or in one that came in this transaction,
-        in an era (`born` is None), whose names are those of now. 4 where one was altered since, or can't be told."""
+        in an era (`born` is None), whose names are those of now. 4 where one was altered since, or isn't known."""
         found: Dict[str, str] = {}
         for name in lacking:
             past = shape.pasts[name]
@@ -126,7 +126,7 @@ class Schemas:
                 raise Broken(
                     BAD,
                     f"{shape.table.place}: column {name} of {shape.table.name} did not change and isn't sent, and since"
-                    " the row was written the table was altered, so that its value can't be told: begin a log with a"
+                    " the row was written the table was altered, so that its value isn't known: begin a log with a"
                     f" new id; `alter table {shape.table.name} replica identity full` before an ALTER spares that",
                 )
             found[name] = of_then
