@@ -44,7 +44,7 @@ class Capture:
         self.origin, self.schemas = Origin(said, self.catalog), Schemas(self.catalog)
         hashed = tuple(it.table.number for it in self.shapes.values() if it.is_hashed)
         self.log = Log(said.log, said.parts, hashed, self.put, self.source.live)
-        self.now: Dict[int, Tuple[Relation, Optional[Shape]]] = {}  # relations as they were told last, and their shapes
+        self.now: Dict[int, Tuple[Relation, Optional[Shape]]] = {}  # relations as described last, and their shapes
         self.changes, self.xid, self.lsn, self.is_there = Changes(), 0, 0, False
         self.waiting = self.beaten = self.flushed = 0
         self.tried = self.told = 0.0
@@ -87,8 +87,8 @@ class Capture:
         self.log.begin(self.kept.number, self.kept.time)
         if not self.origin.is_allowed:
             self.patience.say(
-                "this user may not use replication origins, so a lost tail may be reported where none is: grant execute on "
-                f"function {', '.join(RIGHTS)}"
+                "this user may not use replication origins, so a lost tail may be reported where none is: grant execute "
+                f"on function {', '.join(RIGHTS)}"
             )
         if not self.log.standing.transaction:
             self.load()
@@ -237,7 +237,7 @@ class Capture:
         return None if born is None else self.kept.body(table, key, born)
 
     def shape_of(self, it: Relation) -> Optional[Shape]:
-        """The shape of a table as it was told last; None of one that isn't captured."""
+        """The shape of a table as it was described last; None of one that isn't captured."""
         known = self.now.get(it.number)
         if known is None or known[0] is not it:
             before, shape = known[1] if known else None, self.relation(it)
