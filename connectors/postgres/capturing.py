@@ -87,8 +87,8 @@ class Capture:
         self.log.begin(self.kept.number, self.kept.time)
         if not self.origin.is_allowed:
             self.patience.say(
-                "this user may not use replication origins, so a lost tail may be reported where none is: grant execute "
-                f"on function {', '.join(RIGHTS)}"
+                "this user may not use replication origins, so a lost tail may be reported where none is: grant "
+                f"execute on function {', '.join(RIGHTS)}"
             )
         if not self.log.standing.transaction:
             self.load()

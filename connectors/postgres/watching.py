@@ -42,7 +42,8 @@ class Watch:
     def begin(self, shapes: Dict[str, Shape]) -> None:
         self.shapes = list(shapes.values())
         self.first = self.found()
-        self.see()
+        if self.first[""]:
+            self.see()
 
     def text(self) -> str:
         """What was published at the start."""

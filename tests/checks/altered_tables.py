@@ -138,7 +138,7 @@ STORIES = (
           behind="the log was begun with"),
     Story("a partition detached, and emptied by TRUNCATE", LEAF, ("update pt set id = 160 where id = 1", "update pt set id = 2 where id = 150", "alter table pt detach partition t",
                                          "update t set a = 9", "truncate t"), behind=KEY),
-    Story("a table that inherits", "create table t(id int primary key, a int); create table ch() inherits (t); insert into t values (1, 1); "
+    Story("a table that inherits", "create table t(id int primary key, a int); create table ch() inherits (t); alter table ch replica identity full; insert into t values (1, 1); "
                                    "insert into ch values (2, 2)", ("update t set a = a + 1", "truncate only t"), publication="for table only t"),
     Story("TRUNCATE, rolled back and not", SHORT,
           ("begin; insert into t values (50, 'q', 1); truncate t; insert into t values (1, 'b', 2); commit",
