@@ -2,12 +2,13 @@
 # make try    the same, and runs the first example with it
 # make        proves and builds bin/hkrep
 # make demo   the same, and runs the first example
-# make serve-demo   the same, and a node that two feeders fill, with a second node that catches up
-# make redis-demo   the same, and a primary's log through Redis into two nodes, one killed in the middle (apt-get install redis-server python3-redis)
-# make nats-demo    the same, and 200,000 transactions through three nats-servers into two nodes, a leader and a node killed (connectors/nats/get-server)
-# make shop-demo    the same, and a PostgreSQL with writers through Redis into two nodes, one killed, 20 moments compared (docs/POSTGRESQL.md)
+# make serve-demo   a node that two feeders fill, with a second node that catches up. This and what follows up to `look` takes bin/hkrep, else
+#             bin/hkrep-unproved of make quick, and only where neither is there it proves and builds the first
+# make redis-demo   a primary's log through Redis into two nodes, one killed in the middle (apt-get install redis-server python3-redis)
+# make nats-demo    200,000 transactions through three nats-servers into two nodes, a leader and a node killed (connectors/nats/get-server)
+# make shop-demo    a PostgreSQL with writers through Redis into two nodes, one killed, 20 moments compared (docs/POSTGRESQL.md)
 # make engine-lab   the same, and faults of three nats-servers in network namespaces, cut off from each other; as root, with iproute2, for minutes
-# make look   the same, and a node that two feeders fill, one of them late, with the page to look at it; until Ctrl-C
+# make look   a node that two feeders fill, one of them late, with the page to look at it; until Ctrl-C
 # make test   the one test command: every proof from nothing, the must-fail edits, the tests, then the end-to-end checks
 # make compare CASES=100000 SEED=7   that many random cases beside tests/lib/reference.py, once bin/hkrep is built
 # make lib    proves and builds the library for programs in C and other languages: lib/libhekaton.a and .so (docs/EMBEDDING.md)
@@ -20,6 +21,8 @@
 # make bench  times the built program (by hand; never part of the gate's verdict)
 
 PREFIX = /usr/local
+# what demonstrations take: the proved program, else the one of make quick, where that alone is there
+PROGRAM = $(firstword $(wildcard bin/hkrep) $(wildcard bin/hkrep-unproved) bin/hkrep)
 
 .PHONY: all quick try test lib install package crate lint hooks measures demo serve-demo redis-demo nats-demo shop-demo engine-lab look compare bench clean
 
@@ -58,22 +61,22 @@ test:
 demo: bin/hkrep
 	bin/hkrep at --log 7 --streams 1 1 1 5 < examples/first.bin
 
-serve-demo: bin/hkrep
+serve-demo: $(PROGRAM)
 	examples/links/two_feeders.py
 
-redis-demo: bin/hkrep
+redis-demo: $(PROGRAM)
 	connectors/redis/demo
 
-nats-demo: bin/hkrep
+nats-demo: $(PROGRAM)
 	connectors/nats/demo
 
-shop-demo: bin/hkrep
+shop-demo: $(PROGRAM)
 	examples/shop/demo
 
 engine-lab: bin/hkrep
 	connectors/lab/run
 
-look: bin/hkrep
+look: $(PROGRAM)
 	examples/links/look.py $(LOOK)
 
 compare:

@@ -94,10 +94,24 @@ class Tree:
             file.symlink_to(target)
 
 
+def program_here():
+    """The program that is handed on: the proved one, else the one of `make quick`. What stands in the place of the proved one has to be proved."""
+    proved, unproved = ROOT / "bin" / "hkrep", ROOT / "bin" / "hkrep-unproved"
+    if proved.exists() and is_unproved(proved):
+        sys.exit(f"{proved} says {told(proved, '--version').strip()!r}, and stands where make puts one that is proved")
+    found = [it for it in (proved, unproved) if it.exists()]
+    return found[0] if found else wanted(proved, "make, or make quick without proofs,")
+
+
 def wanted(path, made_by):
     if not path.exists():
         sys.exit(f"{path} is not there: {made_by} makes it")
     return path
+
+
+def has_library(program, lib):
+    """Whether the library for C goes too: always beside a proved program; beside one without proofs where it is there."""
+    return not is_unproved(program) or (lib / "libhekaton.so").exists()
 
 
 def in_c(tree, lib):
@@ -128,7 +142,7 @@ def of_shells(tree, program):
     whole = helped(program)
     files = [(f"{tree.prefix}/share/vadungsil", "examples and docs: the commands of these pages can be typed there as they stand"),
              (f"{tree.sysconfdir}/default/hkrep", "what the unit hkrep@PORT starts a node with")]
-    for name, text in manual.pages(program, whole, VERSION, seconds(), files).items():
+    for name, text in manual.pages(program, whole, f"{VERSION} unproved" if is_unproved(program) else VERSION, seconds(), files).items():
         tree.add(f"{tree.prefix}/share/man/man1/{name}", text)
     places = {"hkrep": "share/bash-completion/completions", "_hkrep": ZSH.get(tree.prefix, "share/zsh/site-functions"),
               "hkrep.fish": "share/fish/vendor_completions.d"}
@@ -162,19 +176,31 @@ def of_pages(tree):
             tree.copy(f"{pages}/{name}", ROOT / name)
 
 
-def kit_of(program):
-    """The kit that the program says it was proved with. A program that says it is unproved is none to hand on."""
+def read_version(program):
+    """What the program says it is: whether it is unproved, and its kit."""
     said = told(program, "--version").strip()
-    found = re.fullmatch(rf"hkrep {re.escape(VERSION)} \((.*)\)", said)
+    found = re.fullmatch(rf"hkrep {re.escape(VERSION)}( unproved, built without a proof)? \((.*)\)", said)
     if not found:
-        sys.exit(f"{program} says {said!r}, and not that it is version {VERSION}, proved")
-    return found[1]
+        sys.exit(f"{program} says {said!r}, and not that it is version {VERSION}")
+    return found[1] is not None, found[2]
 
 
-def filled(tree, python="/usr/bin/env python3", program=ROOT / "bin" / "hkrep", lib=ROOT / "lib"):
+def is_unproved(program):
+    return read_version(program)[0]
+
+
+def kit_of(program):
+    """The kit that the program was built with, and whether it was proved."""
+    unproved, kit = read_version(program)
+    return f"{kit}, UNPROVED: built without a proof" if unproved else kit
+
+
+def filled(tree, python="/usr/bin/env python3", program=None, lib=ROOT / "lib"):
     """The tree with all of it."""
-    tree.copy(f"{tree.prefix}/bin/hkrep", wanted(program, "make"), 0o755)
-    in_c(tree, lib)
+    program = program or program_here()
+    tree.copy(f"{tree.prefix}/bin/hkrep", program, 0o755)
+    if has_library(program, lib):
+        in_c(tree, lib)
     in_python(tree, python)
     of_shells(tree, program)
     of_system(tree)

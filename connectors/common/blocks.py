@@ -6,6 +6,7 @@ entry n stands in the first block whose `last` is n or more. Repeats are free. S
 `vadungsil` of this checkout."""
 from __future__ import annotations
 
+import hashlib
 import struct
 from typing import Dict, Iterable, List, NamedTuple, Tuple
 
@@ -104,6 +105,18 @@ AHEAD = "a mark counts entries that come behind it"
 def no_block(name: str, why: str) -> Broken:
     """What is said of a message that is no block, or of the bytes of a file that begin no item."""
     return Broken(3, f"{name} is no block of this stream: {why}")
+
+
+def sum_of(data: bytes) -> bytes:
+    """The checksum of a message's block."""
+    return hashlib.sha256(data).digest()
+
+
+def see_sum(name: str, said: bytes, data: bytes) -> None:
+    """3 where the bytes of a message aren't those that its checksum was made of. One of before has none."""
+    own = sum_of(data)
+    if said and own != said:
+        raise Broken(3, f"{name}: its checksum is {own.hex()}, where it says {said.hex()[:64]}: it is corrupt")
 
 
 def misplaced(number: int, before: int) -> str:

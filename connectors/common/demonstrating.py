@@ -2,7 +2,6 @@
 the table at the end."""
 from __future__ import annotations
 
-import pathlib
 import random
 import socket
 import subprocess
@@ -10,11 +9,11 @@ import tempfile
 import time
 from typing import Any, Dict, Iterator, List, Tuple
 
+from built import needed_hkrep
 from feeding import Feed
 from vadungsil import LogWriter, encode
 from vadungsil.node import Node
 
-HKREP = pathlib.Path(__file__).resolve().parents[2] / "bin" / "hkrep"
 STREAMS, ACCOUNTS = 4, 50
 WORDS = ["--log", "7", "--streams", str(STREAMS)]
 Rows = Dict[int, bytes]
@@ -33,6 +32,7 @@ class Demonstration:
     def __init__(self) -> None:
         self.children: List["subprocess.Popen[bytes]"] = []
         self.begin, self.said = time.monotonic(), tempfile.TemporaryFile()
+        self.hkrep = needed_hkrep()
 
     def start(self, *words: Any, **more: Any) -> "subprocess.Popen[bytes]":
         options: Dict[str, Any] = {"stdout": subprocess.DEVNULL, "stderr": self.said, **more}
@@ -59,7 +59,7 @@ class Demonstration:
             child.wait()
 
     def node_on(self, port: int) -> "subprocess.Popen[bytes]":
-        child = self.start(HKREP, "serve", *WORDS, "--port", port, "--links", 16, stdout=subprocess.PIPE)
+        child = self.start(self.hkrep, "serve", *WORDS, "--port", port, "--links", 16, stdout=subprocess.PIPE)
         assert child.stdout is not None
         child.stdout.readline()
         return child

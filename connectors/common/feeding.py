@@ -247,22 +247,27 @@ def node_certificates(said: argparse.Namespace) -> Certificates:
 
 
 class Patience:
-    """Waits after failures, each time twice as long, from 50 ms to 5 s; and says on standard error why, once for each
-    reason in a row."""
+    """Waits after failures, each time twice as long, from 50 ms to `most` seconds; and says on standard error why, once
+    for each reason in a row."""
 
-    def __init__(self, name: str) -> None:
-        self.name, self.pause, self.said = name, 0.05, ""
+    def __init__(self, name: str, most: float = 5.0) -> None:
+        self.name, self.most, self.pause, self.said = name, most, 0.05, ""
 
     def say(self, text: str) -> None:
-        print(f"{self.name}: {short(text)}", file=sys.stderr, flush=True)
+        sys.stderr.write(f"{self.name}: {short(text)}\n")  # in one piece: threads say side by side
+        sys.stderr.flush()
 
     def wait(self, reason: object) -> None:
         text = f"{type(reason).__name__}: {reason}"
         if text != self.said:
             self.say(f"{text}; trying again")
         self.said = text
+        self.pause_on()
+
+    def pause_on(self) -> None:
+        """Waits, and says nothing."""
         time.sleep(self.pause)
-        self.pause = min(2 * self.pause, 5.0)
+        self.pause = min(2 * self.pause, self.most)
 
     def forget(self) -> None:
         """Something went well."""

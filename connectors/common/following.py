@@ -1,10 +1,13 @@
 """The follower, over any engine: what `follow` does of each connector. It keeps no cursor: at its start, and after each
-connection that broke, it asks the nodes how far each stream is, and reads from there."""
+connection that broke, it asks its node how far each stream is, and reads from there. Of several nodes each has a
+thread, which waits for no other."""
 from __future__ import annotations
 
 import argparse
+import queue
+import threading
 import time
-from typing import Any, Dict, List, Optional, Tuple, Type
+from typing import Any, Callable, Dict, List, NamedTuple, Optional, Tuple, Type
 
 from blocks import Block, Broken, Missing, entries_of
 from engine_log import Behind, EngineLog, Reading
@@ -22,6 +25,7 @@ from feeding import (
     place_of,
     usual,
 )
+from sharing import SharedReading, Window
 from vadungsil.node import Node
 
 STATUSES = """status: 0 as far as was asked for; 1 a failure, with --once, or ENGINE refuses; 2 the log forks:
@@ -30,6 +34,11 @@ no blocks of the log, or it has more streams; 4 a node refuses the items; 64 the
 
 
 MOST_A_STREAM = 256
+# how many seconds a node has for each step: to be connected to, to take what is sent, to reply
+STEP_SECONDS = 2.0
+# how many seconds of pause a node gets at most that fails again and again, and an engine; and how often a refusal that
+# goes on is said
+NODE_PAUSE, ENGINE_PAUSE, SAID_EACH = 30.0, 5.0, 60.0
 
 
 class SourceAway(Exception):
@@ -47,7 +56,8 @@ class Fed:
 
     def link(self) -> Feed:
         if self.feed is None:
-            self.feed, self.sent = Feed(self.address, ahead=self.ahead, certificates=self.certificates), {}
+            feed = Feed(self.address, STEP_SECONDS, self.ahead, self.certificates)
+            self.feed, self.sent = feed, {}
         return self.feed
 
     def unlink(self) -> None:
@@ -106,75 +116,60 @@ class Fed:
 
 
 class Follower:
-    def __init__(self, store: EngineLog, said: argparse.Namespace) -> None:
-        self.store, self.said, self.patience = store, said, Patience("follow")
+    """Feeds one node. What it reads it shares with others, where there is a window."""
+
+    def __init__(self, store: EngineLog, said: argparse.Namespace, node: str, window: Optional[Window] = None) -> None:
+        self.store, self.said, self.window = store, said, window
+        self.patience, self.node_patience = Patience("follow", ENGINE_PAUSE), Patience("follow", NODE_PAUSE)
+        self.store.say = self.patience.say
         self.passing: Tuple[Type[Exception], ...] = (SourceAway, LinkBroken, Refused, *store.errors)
         self.streams: List[int] = said.only or list(range(1, store.streams + 1))
-        self.nodes = [Fed(address, said.ahead, node_certificates(said)) for address in said.node]
-        self.reading: Optional[Reading] = None  # None: ask the nodes
+        self.node = Fed(node, said.ahead, node_certificates(said))
+        self.refusals = Refusals(self.patience)
+        self.reading: Optional[Reading] = None  # None: ask the node
         self.numbers: Dict[int, int] = {}  # the last entry of each stream that was read
         self.fed: Dict[int, Block] = {}  # the last block with entries of each stream that was sent
         self.before: Dict[int, Block] = {}  # the last block of each stream that this reading gave
-        self.behind: Dict[int, float] = {}  # since when the engine seems to have less than a node
+        self.behind: Dict[int, float] = {}  # since when the engine seems to have less than the node
         self.lacked: Dict[
             int, Tuple[int, int]
         ] = {}  # what was missing in the middle of a stream, and is asked of --from
-        self.heard = self.tried = time.monotonic()
+        self.heard = time.monotonic()
         self.frames = self.size = self.blocks = 0
-
-    def linked(self) -> List[Fed]:
-        return [it for it in self.nodes if it.feed is not None]
 
     # ------------------------------------------------------------ where to begin
 
     def begin(self) -> None:
-        """Reads from the least that a node has that can be reached; where the engine lacks what comes next, after that
-        node has joined what another one knows."""
-        self.link_all()
-        for it in self.linked():
-            it.learn(self.store.log, self.store.streams)
+        """Reads from what the node has; where the engine lacks what comes next, after the node has joined what another
+        one knows."""
+        self.node.learn(self.store.log, self.store.streams)
         self.store.see_streams()
         self.see_no_fork()
-        for it in self.linked():
-            self.see_no_loss(it)
-            lacking = self.lacking(it)
-            if lacking or any(it.prefixes[stream] < high for stream, (_, high) in self.lacked.items()):
-                if not self.said.source:
-                    raise Missing(self.store.engine, lacking)
-                self.patience.say(it.fill(self.said.source))
-                it.learn(self.store.log, self.store.streams)
-                lacking = self.lacking(it)
-                if lacking:
-                    raise Missing(self.store.engine, lacking)
-        self.numbers = {stream: min(it.prefixes[stream] for it in self.linked()) for stream in self.streams}
+        self.see_no_loss()
+        lacking = self.lacking()
+        if lacking or any(self.node.prefixes[stream] < high for stream, (_, high) in self.lacked.items()):
+            if not self.said.source:
+                raise Missing(self.store.engine, lacking)
+            self.patience.say(self.node.fill(self.said.source))
+            self.node.learn(self.store.log, self.store.streams)
+            lacking = self.lacking()
+            if lacking:
+                raise Missing(self.store.engine, lacking)
+        self.numbers = {stream: self.node.prefixes[stream] for stream in self.streams}
         self.before.clear()
-        self.reading = self.store.reading(self.numbers, self.said.batch)
+        self.reading = self.new_reading()
 
-    def link_all(self) -> None:
-        """Connects to each node; raises where none can be reached."""
-        self.tried = time.monotonic()
-        failed: Optional[LinkBroken] = None
-        for it in self.nodes:
-            try:
-                it.link()
-            except LinkBroken as error:
-                failed = error
-        if not self.linked() and failed is not None:
-            raise failed
+    def new_reading(self) -> Reading:
+        if self.window is None:
+            return self.store.reading(self.numbers, self.said.batch)
+        return SharedReading(self.window, self.store, self.numbers, self.said.batch)
 
-    def link_again(self) -> None:
-        """Once a second, to nodes that are away; one that is back is begun with anew."""
-        before = len(self.linked())
-        if before < len(self.nodes) and time.monotonic() - self.tried > 1:
-            self.link_all()
-            self.reading = None if len(self.linked()) > before else self.reading
-
-    def lacking(self, it: Fed) -> Dict[int, Tuple[int, int]]:
+    def lacking(self) -> Dict[int, Tuple[int, int]]:
         lacking = {}
         for stream in self.streams:
             first = self.store.first(stream)
-            if first > it.prefixes[stream] + 1:
-                lacking[stream] = (it.prefixes[stream] + 1, first - 1)
+            if first > self.node.prefixes[stream] + 1:
+                lacking[stream] = (self.node.prefixes[stream] + 1, first - 1)
         return lacking
 
     def see_no_fork(self) -> None:
@@ -192,16 +187,16 @@ class Follower:
                     ),
                 )
 
-    def see_no_loss(self, it: Fed) -> None:
+    def see_no_loss(self) -> None:
         """The engine has all that the node has. Where it doesn't for so long as --patience says, it lost its tail."""
         for stream in self.streams:
             last = self.store.last(stream)
-            if last >= it.prefixes[stream]:
+            if last >= self.node.prefixes[stream]:
                 self.behind.pop(stream, None)
                 continue
             self.store.tail(stream)  # says so where it only ends with a repeat
             text = (
-                f"stream {stream}: the node at {it.address} has entries to {it.prefixes[stream]}, and"
+                f"stream {stream}: the node at {self.node.address} has entries to {self.node.prefixes[stream]}, and"
                 f" {self.store.engine} to {last} only"
             )
             if time.monotonic() - self.behind.setdefault(stream, time.monotonic()) > self.said.patience:
@@ -228,8 +223,10 @@ class Follower:
             self.see_next(stream, block)
             self.numbers[stream] = max(self.numbers[stream], block.last)
         name = ", ".join(f"stream {stream} to {self.numbers[stream]}" for stream in sorted({it[0] for it in found}))
-        for it in self.linked():
-            self.send(it, found, name)
+        if found:
+            self.node.send(found, name)
+        elif self.node.feed is not None and self.node.feed.waiting:
+            self.node.feed.drain()
         self.fed.update({stream: block for stream, _, block in found if block.last >= block.first})
         self.blocks, self.frames = self.blocks + len(found), self.frames + sum(it[2].frames for it in found)
         self.size += sum(len(it[2].data) for it in found)
@@ -243,19 +240,6 @@ class Follower:
             block = block if block.latest >= before.latest else block._replace(latest=before.latest)
         self.before[stream] = block
 
-    def send(self, it: Fed, found: List[Tuple[int, Any, Block]], name: str) -> None:
-        """Sends blocks to a node; where its connection breaks and there are others, those are fed on."""
-        try:
-            if found:
-                it.send(found, name)
-            elif it.feed is not None and it.feed.waiting:
-                it.feed.drain()
-        except LinkBroken as error:
-            it.unlink()
-            if not self.linked():
-                raise
-            self.patience.say(f"{error}; the other nodes are fed on")
-
     def is_done(self, moved: bool) -> bool:
         """Whether that was all that was asked for. A silent connection is looked at once a second, for a node that is
         gone says nothing."""
@@ -263,8 +247,8 @@ class Follower:
             return False
         if self.said.until or time.monotonic() - self.heard > 1:
             self.heard = time.monotonic()
-            readable = [it.link().front().readable for it in self.linked()]
-            if self.said.until and len(readable) == len(self.nodes) and min(readable) >= self.said.until:
+            readable = self.node.link().front().readable
+            if self.said.until and readable >= self.said.until:
                 return True
         return bool(self.said.once and self.reading and self.reading.has_all())
 
@@ -275,39 +259,75 @@ class Follower:
                 if self.is_done(moved):
                     return
                 self.patience.forget()
-                self.link_again()
+                self.node_patience.forget()
+                self.refusals.forget()
             except Missing as missing:
-                # trimmed or deleted under this very reader: from the nodes' state once more, and by --from if need be
+                # trimmed or deleted under this very reader: from the node's state once more, and by --from if need be
                 if self.reading is None or not self.said.source or missing.lacking == self.lacked:
                     raise
                 self.reading, self.lacked = None, missing.lacking
             except Behind as error:
                 self.look_anew()
                 self.patience.wait(error)
+            except Broken as broken:
+                if self.window is None or broken.status != 4 or self.said.once:
+                    raise
+                self.refused_again(broken)
             except self.passing as error:
                 self.again(error)
 
     def again(self, error: BaseException) -> None:
-        """Waits, where a later try may go well."""
+        """Waits, where a later try may go well; a node that refuses what others take is tried again too."""
         is_passing = isinstance(error, (SourceAway, LinkBroken)) or (isinstance(error, Refused) and error.number == 90)
         if isinstance(error, self.store.errors):
             is_passing = self.store.is_passing(error)
             self.look_anew()
-        if self.said.once or not is_passing:
+        is_refusal = isinstance(error, Refused) and not is_passing and self.window is not None
+        if self.said.once or not (is_passing or is_refusal):
             raise error
+        if is_refusal:
+            self.refused_again(error)
+            return
         if isinstance(error, (LinkBroken, Refused)):
-            for it in self.linked():
-                it.unlink()
+            self.node.unlink()
         self.reading = None
-        self.patience.wait(error)
+        (self.node_patience if isinstance(error, LinkBroken) else self.patience).wait(error)
+
+    def refused_again(self, error: BaseException) -> None:
+        """Says what a node refuses that others may take, and begins with it anew after a while."""
+        self.refusals.say(f"the node at {self.node.address} refuses: {error}")
+        self.node.unlink()
+        self.reading = None
+        self.node_patience.pause_on()
 
     def look_anew(self) -> None:
         """Gives up the connection to the engine, and what was thought of it: what comes at the places of before may be
         other blocks."""
         self.store.forget()
         self.reading = None
-        for it in self.nodes:
-            it.sent.clear()
+        self.node.sent.clear()
+
+    def summary(self) -> str:
+        return f"{self.frames} frames in {self.blocks} blocks, {self.size} bytes"
+
+
+class Refusals:
+    """What a node refuses again and again is said once, and then once a minute with how often it was."""
+
+    def __init__(self, patience: Patience) -> None:
+        self.patience, self.text, self.count, self.said = patience, "", 0, 0.0
+
+    def say(self, text: str) -> None:
+        self.count = self.count + 1 if text == self.text else 1
+        if text != self.text:
+            self.patience.say(f"{text}; trying again")
+            self.text, self.said = text, time.monotonic()
+        elif time.monotonic() - self.said > SAID_EACH:
+            self.patience.say(f"{text} ({self.count} times); trying again")
+            self.said = time.monotonic()
+
+    def forget(self) -> None:
+        self.text, self.count = "", 0
 
 
 def streams_of(text: str) -> List[int]:
@@ -321,8 +341,8 @@ def add_follow_words(words: argparse.ArgumentParser, engine: str) -> None:
     add_node_words(
         words,
         (
-            "a node's first port; as often as wanted: each block is then read once for all of them, and the slowest"
-            f" holds the others back; {ELSE}"
+            "a node's first port; as often as wanted: each block is then read once for those that are near one another,"
+            f" and none waits for another; {ELSE}"
         ),
         default=[],
     )
@@ -360,25 +380,61 @@ def see_follow_words(said: argparse.Namespace, words: argparse.ArgumentParser) -
         words.error("--batch, --ahead and --block are at least 1")
 
 
-def follow(store: EngineLog, said: argparse.Namespace) -> int:
-    """All of it: the status."""
-    follower = Follower(store, said)
-    may_fail: Tuple[Type[Exception], ...] = (*store.errors, LinkBroken, SourceAway, OSError)
+class End(NamedTuple):
+    """How the following of a node ended: the status, and why, where it wasn't asked for."""
+
+    status: int
+    why: str = ""
+
+
+def followed(follower: Follower) -> End:
+    """Follows till that ends."""
+    may_fail: Tuple[Type[Exception], ...] = (*follower.store.errors, LinkBroken, SourceAway, OSError)
     try:
         follower.run()
     except Broken as broken:
-        follower.patience.say(str(broken))
-        return broken.status
+        return End(broken.status, str(broken))
     except (Refused, Fault) as refused:
-        follower.patience.say(f"the node refuses: {refused}")
-        return 4
+        return End(4, f"the node refuses: {refused}")
     except may_fail as error:
-        follower.patience.say(f"{type(error).__name__}: {error}")
-        return 1
+        return End(1, f"{type(error).__name__}: {error}")
     finally:
-        for it in follower.linked():
-            it.unlink()
-    for line in store.left_over():
-        follower.patience.say(line)
-    follower.patience.say(f"{follower.frames} frames in {follower.blocks} blocks, {follower.size} bytes")
+        follower.node.unlink()
+    return End(0)
+
+
+def followed_together(followers: List[Follower]) -> End:
+    """Follows to several nodes, each in a thread, till all have ended, or one for a reason that is so for all."""
+    ends: "queue.SimpleQueue[End]" = queue.SimpleQueue()
+    for it in followers:
+        threading.Thread(target=lambda it=it: ends.put(ended_by(it)), daemon=True).start()
+    for _ in followers:
+        end = ends.get()
+        if end.status:
+            return end
+    return End(0)
+
+
+def ended_by(follower: Follower) -> End:
+    """The same; what nobody thought of ends all, too."""
+    try:
+        return followed(follower)
+    except Exception as error:  # pylint: disable=broad-except
+        return End(1, f"{type(error).__name__}: {error}")
+
+
+def follow(opened: Callable[[], EngineLog], said: argparse.Namespace) -> int:
+    """All of it: the status. `opened` gives the log that the words name; of several nodes each has its own."""
+    window = Window(opened(), said.batch) if len(said.node) > 1 else None
+    followers = [Follower(opened(), said, node, window) for node in said.node]
+    patience = Patience("follow")
+    end = followed(followers[0]) if window is None else followed_together(followers)
+    if end.why:
+        patience.say(end.why)
+    if end.status:
+        return end.status
+    for line in followers[0].store.left_over():
+        patience.say(line)
+    for it in followers:
+        patience.say(f"{it.node.address}: {it.summary()}" if window else it.summary())
     return 0

@@ -1,9 +1,12 @@
 """A log of one stream in a file: item frames one behind the other, as `hkrep` reads them, and nothing else. Places are
-offsets. What stands behind the last whole frame was cut off when its writer ended; the next writer takes it away, and
-readers wait for the rest. Standard library only."""
+offsets. Beside it are its checksums (sums.py): what stands behind the last of them wasn't kept when its writer ended;
+the next writer takes it away, and readers wait. A file of before, without them, is read up to its last whole frame.
+Standard library only."""
 from __future__ import annotations
 
 import argparse
+import contextlib
+import errno
 import fcntl
 import os
 import pathlib
@@ -19,9 +22,11 @@ sys.path.append(str(pathlib.Path(__file__).resolve().parent.parent / "common"))
 from blocks import AHEAD, BLOCK_BYTES, Block, Broken, closed, misplaced, no_block, reason, walked  # noqa: E402
 from engine_log import EngineLog, Moved, Reading, add_log_words, see_log  # noqa: E402
 from feeding import LEAST_REST, MOST_REST  # noqa: E402
+from sums import Line, Sums, line_of  # noqa: E402
 
 _TWO = (1, 2)  # versions, and kinds
 _HEAD, _PLACE = struct.Struct(">IBBQHQQ").unpack_from, struct.Struct(">QH").pack
+FULL = (errno.ENOSPC, errno.EDQUOT)
 # how much is looked at and how many blocks are read at once, and how long a reader sleeps in between, in seconds
 PIECE, BLOCKS, PAUSE = 1 << 20, 16, 0.01
 
@@ -107,35 +112,39 @@ class Places:
 
 class LogInFile(EngineLog):
     """Nothing is opened before the first call. With `fsync` nothing counts as kept before the system was asked to bring
-    it to the disk."""
+    it to the disk. With `trust` its writer makes the checksums anew, of what the file has."""
 
     errors = (OSError,)
 
-    def __init__(self, path: str, log: int, fsync: bool = True) -> None:
+    def __init__(self, path: str, log: int, fsync: bool = True, trust: bool = False) -> None:
         super().__init__(log, 1)
-        self.engine, self.path, self.fsync = path, path, fsync
+        self.engine, self.path, self.fsync, self.trust = path, path, fsync, trust
         self.file, self.places, self.is_writing = -1, Places(log, path), False
+        self.sums, self.is_summed, self.has_said = Sums(path), None, False  # type: Sums, Optional[bool], bool
         self.rest = 0  # bytes behind what is whole
 
     def is_passing(self, error: BaseException) -> bool:
-        """Whether the file isn't there yet."""
-        return isinstance(error, FileNotFoundError)
+        """Whether the file isn't there yet, or its disk is full."""
+        return isinstance(error, FileNotFoundError) or (isinstance(error, OSError) and error.errno in FULL)
 
     def drop(self) -> None:
         if self.file >= 0:
             os.close(self.file)
         self.file, self.places, self.is_writing = -1, Places(self.log, self.path), False
+        self.sums.close()
+        self.is_summed = None
 
     def key(self, stream: int) -> str:
         return self.path
 
     def prepare(self) -> None:
         """Opens the file for writing, which one program does at a time (1), and takes away what was cut off; what was
-        never the begin of an item stays (3)."""
+        never the begin of an item, or isn't what its checksums say, stays (3)."""
         if self.is_writing:
             return
         self.drop()
         is_new = not os.path.exists(self.path)
+        self.prepare_sums(is_new or os.path.getsize(self.path) == 0)
         self.file = os.open(self.path, os.O_RDWR | os.O_CREAT | os.O_APPEND, 0o640)
         try:
             fcntl.flock(self.file, fcntl.LOCK_EX | fcntl.LOCK_NB)
@@ -146,10 +155,92 @@ class LogInFile(EngineLog):
         for line in self.left_over():
             self.say(f"{line} are taken away")
         os.ftruncate(self.file, whole)
-        if is_new and self.fsync:
-            folder = os.open(os.path.dirname(os.path.abspath(self.path)), os.O_RDONLY)
-            os.fsync(folder)
-            os.close(folder)
+        if self.is_summed:
+            self.sums.cut()
+        elif self.trust:
+            self.sum_all()
+        if (is_new or self.trust) and self.fsync:
+            self.sync_folder()
+
+    def sync_folder(self) -> None:
+        folder = os.open(os.path.dirname(os.path.abspath(self.path)), os.O_RDONLY)
+        os.fsync(folder)
+        os.close(folder)
+
+    # ------------------------------------------------------------ checksums
+
+    def prepare_sums(self, is_empty: bool) -> None:
+        """Begins with checksums where the file is empty; those of before aren't read where `trust` says so. They are
+        there before the file is, so no reader sees it without."""
+        self.is_summed = False
+        if not self.trust:
+            self.is_summed = self.sums.open(os.O_RDWR | os.O_APPEND | (os.O_CREAT if is_empty else 0))
+
+    def sum_all(self) -> None:
+        """Makes the checksums of what the file has: beside their place, then there."""
+        new, old = self.sums.path + ".new", self.sums.path
+        self.sums.path = new
+        with contextlib.suppress(FileNotFoundError):
+            os.unlink(new)
+        self.is_summed = self.sums.open(os.O_RDWR | os.O_APPEND | os.O_CREAT)
+        for begin, end in zip([0, *self.places.ends], [*self.places.ends, self.places.size]):
+            if begin < end:
+                data = self.bytes_of(begin, end)
+                last = last_entry(data) or self.number_before(begin)
+                self.sums.add([line_of(end, last, self.sums.before, data)], False)
+        os.fsync(self.sums.file)
+        os.rename(new, old)
+        self.sums.path = old
+
+    def lines_of(self, begin: int, blocks: List[Block]) -> List[Line]:
+        """The lines of blocks that begin at a place."""
+        lines: List[Line] = []
+        for block in blocks:
+            begin += len(block.data)
+            before = lines[-1].text if lines else self.sums.before
+            lines.append(line_of(begin, block.last, before, block.data))
+        return lines
+
+    def see_sums(self) -> bool:
+        """Whether there are checksums, which is said once where there are none and the file has something."""
+        if self.is_summed is None:
+            self.is_summed = self.sums.open() or (None if os.fstat(self.file).st_size == 0 else False)
+        if self.is_summed is False and not self.has_said and not self.trust:
+            what = f"{self.path} has no {self.sums.path}"
+            self.say(f"{what}: corrupt bytes may not show; its writer makes one with --trust")
+            self.has_said = True
+        return bool(self.is_summed)
+
+    def bytes_of(self, begin: int, end: int) -> bytes:
+        """The bytes between two places, as far as they are there."""
+        parts: List[bytes] = []
+        while begin < end and (piece := os.pread(self.file, end - begin, begin)):
+            parts.append(piece)
+            begin += len(piece)
+        return b"".join(parts)
+
+    def look_summed(self) -> Places:
+        """Where the blocks are that have checksums. One that isn't what its line says is the end of what is whole."""
+        try:
+            for line in self.sums.more():
+                data = self.bytes_of(self.sums.end, line.end)
+                why = self.sums.wrong(line, data) or self.unlike(line, data)
+                if why:
+                    raise Broken(3, f"stream 1: byte {self.sums.end} of {self.path}: {why}: it is corrupt")
+                self.sums.take(line)
+        except Broken as broken:
+            self.places.fault = broken
+        self.rest = os.fstat(self.file).st_size - self.places.size
+        if self.rest > 0 and not self.is_writing and self.sums.is_replaced():
+            self.drop()  # they were made anew
+        return self.places
+
+    def unlike(self, line: Line, data: bytes) -> str:
+        """Why the items of a block aren't those of its line; empty where they are."""
+        if self.places.add(data) < len(data):
+            return f"byte {self.places.size} begins no item of the log"
+        number = self.places.number
+        return "" if number == line.last else f"it ends with entry {number}, where {self.sums.path} says {line.last}"
 
     # ------------------------------------------------------------ how far it is
 
@@ -157,6 +248,10 @@ class LogInFile(EngineLog):
         """Where the blocks are by now."""
         if self.file < 0:
             self.file = os.open(self.path, os.O_RDONLY)
+        if self.places.fault:
+            return self.places
+        if self.see_sums():
+            return self.look_summed()
         size, self.rest = PIECE, 0
         while not self.places.fault and (piece := os.pread(self.file, size, self.places.size)):
             taken = self.places.add(piece)
@@ -176,7 +271,8 @@ class LogInFile(EngineLog):
 
     def left_over(self) -> List[str]:
         size = self.look().size
-        return [f"byte {size} of {self.path}: {self.rest} bytes that are no whole frame"] if self.rest else []
+        what = "have no checksum yet" if self.is_summed else "are no whole frame"
+        return [f"byte {size} of {self.path}: {self.rest} bytes that {what}"] if self.rest > 0 else []
 
     def block(self, begin: int, end: int) -> Block:
         """The frames between two places; 3 where they are none of this log."""
@@ -220,12 +316,20 @@ class LogInFile(EngineLog):
         if self.see().size != behind:
             raise Moved
         data = b"".join(block.data for block in blocks)
+        if not data:
+            return behind
         left = memoryview(data)
-        while left:
-            left = left[os.write(self.file, left) :]
+        try:
+            while left:
+                left = left[os.write(self.file, left) :]
+            if self.fsync:
+                os.fsync(self.file)
+            if self.is_summed:
+                self.sums.add(self.lines_of(behind, blocks), self.fsync)
+        except OSError:
+            os.ftruncate(self.file, behind)  # a part of it helps nobody, and the next try begins with none
+            raise
         self.places.add(data)
-        if self.fsync:
-            os.fsync(self.file)
         for block in blocks:
             kept(block.last)
         return self.places.size
@@ -267,7 +371,7 @@ class ReadingFile(Reading):
 
 
 def add_words(words: argparse.ArgumentParser) -> None:
-    words.add_argument("--file", required=True, metavar="FILE", help="the file of the log")
+    words.add_argument("--file", required=True, metavar="FILE", help="the file of the log, beside FILE.sums")
     add_log_words(words)
 
 

@@ -1,6 +1,6 @@
 """A log in NATS JetStream: stream S of log L is the JetStream stream `hekaton_L_S`, of the subject `hekaton.L.S`, with
 three replicas; a message is a block (connectors/common/blocks.py), whose header Hk-Last has the number of its last
-entry.
+entry, and Hk-Sum its SHA-256 in hexadecimal digits.
 
 Each append names the sequence of the message that it stands behind (Nats-Expected-Last-Sequence), so two writers can't
 come between each other, nothing is there twice, and no block stands behind one that lacks: the server refuses it,
@@ -22,7 +22,7 @@ sys.dont_write_bytecode = True
 HERE = pathlib.Path(__file__).resolve().parent
 sys.path[:0] = [str(HERE), str(HERE.parent / "common")]
 
-from blocks import BLOCK_BYTES, Block, no_block, walked  # noqa: E402
+from blocks import BLOCK_BYTES, Block, no_block, see_sum, sum_of, walked  # noqa: E402
 from engine_log import EngineLog, Moved, Reading, add_log_words, see_log  # noqa: E402
 from jetstream import ApiError, Away, Denied, Message, Nats, Security, see_version, versions  # noqa: E402
 
@@ -54,6 +54,14 @@ class Info(NamedTuple):
 
     def has_messages(self) -> bool:
         return self.first <= self.last
+
+
+def said_in(header: bytes) -> bytes:
+    """The checksum that a header has; what is none stays as it is, and is then no block's."""
+    try:
+        return bytes.fromhex(header.decode("ascii"))
+    except ValueError:
+        return header
 
 
 class LogInNats(EngineLog):
@@ -273,6 +281,7 @@ class LogInNats(EngineLog):
         name = f"stream {stream}: message {sequence} of {self.key(stream)}"
         if not last.isdigit() or len(last) > 19:
             raise no_block(name, "its header Hk-Last is no number" if last else "it has no header Hk-Last")
+        see_sum(name, said_in(message.header(b"Hk-Sum")), message.data)
         return walked(message.data, int(last), self.log, stream, name)
 
     # ------------------------------------------------------------ appending
@@ -322,10 +331,11 @@ class LogInNats(EngineLog):
                 self.send_first(stream)
 
     def message(self, stream: int, behind: int, block: Block) -> Tuple[bytes, bytes]:
-        head = b"Nats-Expected-Stream: %s\r\nNats-Expected-Last-Sequence: %d\r\nHk-Last: %d\r\n" % (
+        head = b"Nats-Expected-Stream: %s\r\nNats-Expected-Last-Sequence: %d\r\nHk-Last: %d\r\nHk-Sum: %s\r\n" % (
             self.key(stream).encode(),
             behind,
             block.last,
+            sum_of(block.data).hex().encode(),
         )
         return self.link().put(self.subject(stream).encode(), block.data, head)
 

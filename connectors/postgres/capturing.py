@@ -4,26 +4,31 @@ from __future__ import annotations
 import itertools
 import json
 import time
-from typing import Any, Dict, List, Optional
+from typing import Any, Dict, List, Optional, Tuple
 
 from configuration import BAD, Broken, Configuration  # finds what is common
 from feeding import Patience, short
 import psycopg2
 
-from catalog import Catalog
+from catalog import Catalog, is_passing
+from confirming import RIGHTS, Origin, see_slot
 from keeping import Kept
 from log import Changes, Log
 from pgoutput import UNCHANGED, Begin, Change, Commit, Message, Relation, Value, Values, Word
-from shapes import Shape, Written
-from source import PREFIX, Source, see_slot
+from schemas import REMEMBERED, Schemas, renamed
+from shapes import Shape, Written, under_names
+from source import PREFIX, Source
 from vadungsil.postgres import COMMIT, HEAD, TABLES, place_of
 from vadungsil.values import MOST_BODY
+from watching import Watch
 
 # Where so many bytes of the write-ahead log had nothing for us, a transaction of no rows is written, so that PostgreSQL
 # can drop them.
 QUIET_BYTES = 1 << 24
 MOST_WAITING = 1 << 20
 AGAIN = 5.0  # seconds between two tries to open a connection that PostgreSQL ended
+CONFIRM = 0.2  # seconds at least between two places that are confirmed
+SILENT = 1.0  # seconds without a message after which a PostgreSQL that ends has sent all
 LOAD_ROWS = 1_024
 
 
@@ -33,13 +38,16 @@ class Capture:
         self.catalog = Catalog(said)
         self.source, self.patience = Source(said, self.catalog), Patience("capture")
         self.shapes = self.catalog.shapes()
+        self.watch = Watch(said, self.catalog)
+        self.watch.begin(self.shapes)
         self.catalog.see_settings(self.shapes)
+        self.origin, self.schemas = Origin(said, self.catalog), Schemas(self.catalog)
         hashed = tuple(it.table.number for it in self.shapes.values() if it.is_hashed)
         self.log = Log(said.log, said.parts, hashed, self.put, self.source.live)
-        self.now: Dict[int, Optional[Shape]] = {}  # the shapes of relations, by what messages say
-        self.changes, self.xid, self.is_there = Changes(), 0, False
-        self.waiting = self.beaten = 0
-        self.tried = 0.0
+        self.now: Dict[int, Tuple[Relation, Optional[Shape]]] = {}  # relations as described last, and their shapes
+        self.changes, self.xid, self.lsn, self.is_there = Changes(), 0, 0, False
+        self.waiting = self.beaten = self.flushed = 0
+        self.tried = self.told = 0.0
 
     def put(self, frame: bytes) -> None:
         self.kept.put(frame)
@@ -77,11 +85,16 @@ class Capture:
         for frame in self.kept.frames():
             self.log.take(frame)
         self.log.begin(self.kept.number, self.kept.time)
+        if not self.origin.is_allowed:
+            self.patience.say(
+                "this user may not use replication origins, so a lost tail may be reported where none is: grant "
+                f"execute on function {', '.join(RIGHTS)}"
+            )
         if not self.log.standing.transaction:
             self.load()
             return
-        wanted = self.own_rows()
-        for key in sorted({*wanted, *self.log.own} - {COMMIT}):
+        wanted, own = self.own_rows(), {key for key in self.log.own if key < REMEMBERED}
+        for key in sorted({*wanted, *own} - {COMMIT}):
             begun, now = (rows.get(key, b"nothing of that").decode() for rows in (self.log.own, wanted))
             if begun != now:
                 raise Broken(
@@ -90,7 +103,10 @@ class Capture:
                     "with a "
                     "new id",
                 )
-        see_slot(self.said, self.catalog, self.log.standing.lsn, self.kept.name)
+        see_slot(self.said, self.catalog, self.origin, self.log.standing.lsn, self.kept.name)
+        self.schemas.learn(self.log.own)
+        self.watch.go_on(self.schemas.publication, self.log.standing.lsn)
+        self.schemas.publication = self.watch.text()
 
     def load(self) -> None:
         """The rows that stand are the first transaction. What an earlier load left is written over."""
@@ -103,9 +119,10 @@ class Capture:
                     "it up",
                 )
             self.catalog.drop_slot()
+        self.origin.drop()
         self.log.load_begin(self.own_rows())
         self.kept.flush()
-        lsn, snapshot = self.source.make_slot()
+        lsn, snapshot = self.source.make_slot(self.patience.say)
         loading = Changes()
 
         def take(shape: Shape, values: List[Value]) -> None:
@@ -114,12 +131,23 @@ class Capture:
                 self.log.load(loading)
                 loading.rows.clear()
 
-        self.source.rows(snapshot, self.shapes, take)
+        self.source.rows(snapshot, self.shapes, self.see_loaded, take)
         self.log.load(loading)
+        self.log.load_own(self.schemas.rows({}))
         self.log.load_end(lsn, int(time.time() * 1e6))
         self.kept.flush()
         count = sum(len(self.log.births.table(it.table.number)) for it in self.shapes.values())
         self.patience.say(f"loaded {count} rows, up to {place_of(lsn)}")
+
+    def see_loaded(self, cursor: Any) -> None:
+        """Remembers the tables as a snapshot has them. One that was altered or written anew since can't be read by
+        it."""
+        for shape in self.shapes.values():
+            then, now = self.catalog.look(shape, cursor), self.catalog.look(shape)
+            if then[1:] != now[1:]:
+                raise psycopg2.OperationalError(f"{shape.table.name} was altered while its load began")
+            self.schemas.load(shape, then)
+        self.schemas.publication = self.watch.text()
 
     # ------------------------------------------------------------ changes
 
@@ -143,7 +171,7 @@ class Capture:
         return keys.get(row.key) is not None and keys.check(row.key) != row.check
 
     def change(self, it: Change) -> None:
-        shape = self.now.get(it.relation.number)
+        shape = self.shape_of(it.relation)
         if shape is None:
             return
         self.changes.count += 1
@@ -178,8 +206,8 @@ class Capture:
         if not shape.lacks(values):
             return values
         key = shape.key(it.old if it.old is not None else values)[0]
-        body = self.before(shape, key)
-        if body is None:
+        found = self.before(shape, key)
+        if found is None:
             raise Broken(
                 3,
                 f"{shape.table.name}: column {shape.lacks(values)[0]} of a row did not change and isn't "
@@ -187,32 +215,59 @@ class Capture:
                 f"longer has the row of before: `alter table {shape.table.name} replica identity full` "
                 "spares that",
             )
-        return shape.filled(values, body)
+        body, born, era = found
+        return shape.filled(values, body, self.schemas.names(shape, shape.lacks(values), born, era))
 
-    def before(self, shape: Shape, key: int) -> Optional[bytes]:
-        """The body of a row as it is by now, in this transaction or in the log."""
+    def before(self, shape: Shape, key: int) -> Optional[Tuple[bytes, Optional[int], int]]:
+        """The body of a row as it is by now: in the log, with its birth, or in this transaction, with its era."""
         number = shape.table.number
         has_come, row = self.changes.rows.get((number, key))
         if has_come:
-            return None if row is None else bytes(row.body)
-        body = self.standing(number, key)
-        long = self.log.longs.get((number, key))
-        if body is None or long is None:
-            return body
-        parts = [self.standing(self.said.parts, long.first + at) for at in range(long.pieces)]
-        return None if None in parts else b"".join(part or b"" for part in parts)
+            return None if row is None else (bytes(row.body), None, row.era)
+        body, born, long = self.standing(number, key), self.log.births.table(number).get(key), None
+        if body is not None:
+            long = self.log.longs.get((number, key))
+        if long is not None:
+            parts = [self.standing(self.said.parts, long.first + at) for at in range(long.pieces)]
+            body = None if None in parts else b"".join(part or b"" for part in parts)
+        return None if body is None else (body, born, 0)
 
     def standing(self, table: int, key: int) -> Optional[bytes]:
         born = self.log.births.table(table).get(key)
         return None if born is None else self.kept.body(table, key, born)
 
-    def relation(self, it: Relation) -> None:
-        """Takes note of a table as it is from here on; under its name stands the table that was loaded, and under no
-        other."""
+    def shape_of(self, it: Relation) -> Optional[Shape]:
+        """The shape of a table as it was described last; None of one that isn't captured."""
+        known = self.now.get(it.number)
+        if known is None or known[0] is not it:
+            before, shape = known[1] if known else None, self.relation(it)
+            if before is not None and shape is not None and shape.table.number in self.changes.tables:
+                self.rename(before, shape)
+            known = self.now[it.number] = (it, shape)
+        return known[1]
+
+    def rename(self, before: Shape, shape: Shape) -> None:
+        """Rows of this transaction have the names of now, where columns were renamed in it."""
+        names, changes = renamed(before, shape), Changes()
+        if not names:
+            return
+        for (number, key), row in self.changes.rows.ordered():
+            if row is None:
+                changes.remove(number, key)
+            else:
+                is_it = number == shape.table.number
+                changes.put(number, row._replace(body=under_names(row.body, names)) if is_it else row)
+        changes.count, changes.tables = self.changes.count, self.changes.tables
+        self.changes = changes
+
+    def relation(self, it: Relation) -> Optional[Shape]:
+        """A table as it is from here on; under its name stands the table that was loaded, and under no other."""
         known = next(
             (shape for shape in self.shapes.values() if it.number == shape.number or it.name == shape.table.name), None
         )
-        if known is not None and (it.number, it.name) != (known.number, known.table.name):
+        if known is None:
+            return None
+        if (it.number, it.name) != (known.number, known.table.name):
             raise Broken(
                 BAD,
                 f"{known.table.place}: {known.table.name} is another table from here on, or has another "
@@ -220,16 +275,16 @@ class Capture:
                 f"{it.name} is number {it.number}, and {known.number} was loaded; begin a log with a "
                 "new id",
             )
-        self.now[it.number] = None
-        if known is not None:
-            shape = self.catalog.relation(known.table, it)
-            if shape.is_hashed != known.is_hashed:
-                raise Broken(
-                    BAD,
-                    f"{known.table.place}: the key {known.table.key} of {it.name} has the type "
-                    f"{shape.types[known.table.key].shown()} from here on: begin a log with a new id",
-                )
-            self.now[it.number] = shape
+        shape = self.catalog.relation(known.table, it)
+        if shape.is_hashed != known.is_hashed:
+            raise Broken(
+                BAD,
+                f"{known.table.place}: the key {known.table.key} of {it.name} has the type "
+                f"{shape.types[known.table.key].shown()} from here on: begin a log with a new id",
+            )
+        is_mixed = shape.table.number in self.changes.tables
+        self.schemas.begin(shape, it, self.lsn, self.log.standing.transaction, is_mixed, self.kept.is_cut)
+        return shape
 
     # ------------------------------------------------------------ going on
 
@@ -240,58 +295,95 @@ class Capture:
         elif isinstance(it, Begin):
             # PostgreSQL sends again what wasn't confirmed before its connection broke
             self.changes, self.xid, self.is_there = Changes(), it.xid, it.lsn < self.log.standing.lsn
-        elif isinstance(it, Relation):
-            self.relation(it)
+            self.lsn = it.lsn
         elif isinstance(it, Word):
             self.changes.count += (it.prefix, it.text) == (PREFIX, self.said.slot.encode())
         elif isinstance(it, Commit):
             if self.changes.count and not self.is_there:
-                self.log.commit(it.end, self.xid, it.clock, self.changes)
+                self.commit(it)
             self.changes = Changes()
             if self.waiting > MOST_WAITING:
                 self.settle()
 
-    def settle(self) -> None:
-        """All that was written is kept, and confirmed to PostgreSQL."""
+    def commit(self, it: Commit) -> None:
+        """Writes a transaction, and before it what is remembered from it on of the tables: but where a part of it
+        stands, for that was written behind what is remembered already."""
+        if self.schemas.may_differ and not self.kept.is_cut:
+            rows = self.schemas.rows(self.log.own)
+            if rows:
+                self.log.note(rows)
+        self.log.commit(it.end, self.xid, it.clock, self.changes)
+        self.kept.is_cut = False
+
+    def keep(self) -> None:
+        """All that was written is kept."""
         self.kept.flush()
-        self.waiting = 0
-        self.source.confirm(self.log.standing.lsn)
+        self.waiting, self.flushed = 0, self.log.standing.lsn
+
+    def settle(self, is_last: bool = False) -> None:
+        """All that was written is kept, and confirmed to PostgreSQL, where that wasn't done just before."""
+        self.keep()
+        if self.flushed - 1 > self.source.confirmed and (is_last or time.monotonic() - self.told > CONFIRM):
+            self.told = time.monotonic()
+            if self.is_watched():
+                self.origin.advance(self.flushed)
+                self.source.confirm(self.flushed)
+
+    def is_watched(self) -> bool:
+        """Whether all is published (4 where it isn't); False too where PostgreSQL is away."""
+        try:
+            self.watch.see()
+            return True
+        except psycopg2.Error as error:
+            if not is_passing(error):
+                raise
+            return False
+
+    def see(self) -> None:
+        """What has to be seen to behind each message: that all is published, and that psycopg2 confirms nothing that
+        isn't kept."""
+        if self.source.confirms_itself() and self.origin.covered(self.flushed) < self.log.standing.lsn:
+            self.keep()
+            self.origin.advance(self.flushed)
+        if time.monotonic() > self.watch.due:
+            self.is_watched()
 
     def rest(self) -> bool:
         """Nothing waits to be read. Whether that was all that was asked for."""
-        self.settle()
-        seen = self.source.seen()
         if self.catalog.is_ended():
-            self.end(seen)
-        elif seen > max(self.beaten, self.log.standing.lsn) + QUIET_BYTES:
+            self.end()
+            return False
+        is_last = bool(self.until) and self.log.standing.lsn >= self.until
+        self.settle(is_last)
+        if is_last:
+            self.is_watched()
+        seen = self.source.seen()
+        if seen > max(self.beaten, self.log.standing.lsn) + QUIET_BYTES:
             self.beaten = seen
             self.source.beat()
-        return bool(self.until) and self.log.standing.lsn >= self.until
+        return is_last
 
-    def end(self, seen: int) -> None:
-        """PostgreSQL ends, or ended nothing but the plain connection, which is then opened again."""
-        if seen > self.log.standing.lsn:
-            self.log.commit(seen, 0, self.log.standing.latest, Changes())
-            self.settle()
-        self.source.confirm_all(seen)
+    def end(self) -> None:
+        """PostgreSQL ends, and all that it still sends is kept. It ends once the last connection is gone."""
+        self.keep()
         if time.monotonic() - self.tried > AGAIN:
             self.tried = time.monotonic()
-            try:
-                self.source.beat()
-            except psycopg2.Error:
-                pass
+            self.catalog.tried("select 1")
+        elif time.monotonic() - max(self.tried, self.source.heard) > SILENT:
+            raise psycopg2.OperationalError("PostgreSQL ends")
 
     def follow(self) -> None:
         self.source.start()
-        self.source.confirm(self.log.standing.lsn)
+        self.settle(True)
         while True:
             messages = self.source.read(0)
             if messages is None:
                 if self.rest():
                     return
-                messages = self.source.read(0.5) or []
+                messages = self.source.read(CONFIRM) or []
             for it in messages:
                 self.take(it)
+            self.see()
             self.patience.forget()
 
     def run(self) -> None:
@@ -303,7 +395,7 @@ class Capture:
                 return
             except Broken as broken:
                 if broken.status == BAD:
-                    self.settle()
+                    self.keep()
                 raise
             except psycopg2.Error as error:
                 if not is_passing(error):
@@ -311,13 +403,3 @@ class Capture:
                 self.source.drop()
                 self.changes = Changes()
                 self.patience.wait(short(str(error)))
-
-
-# the slot is read by another, and the server is being shut down, has crashed or starts
-PASSING = ("55006", "57P01", "57P02", "57P03")
-
-
-def is_passing(error: psycopg2.Error) -> bool:
-    """Whether PostgreSQL is away, starts, or still has the connection of a capture that was killed."""
-    is_link = isinstance(error, (psycopg2.OperationalError, psycopg2.InterfaceError))
-    return is_link or error.pgcode in PASSING or (error.pgcode is None and isinstance(error, psycopg2.DatabaseError))

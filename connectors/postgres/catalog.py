@@ -11,6 +11,7 @@ from psycopg2 import sql
 
 from configuration import BAD, Broken, Configuration, Table
 from pgoutput import Relation
+from remembering import Look, Seen
 from shapes import Shape, Type
 
 # The texts of values have to be the same in each session: of the load, of the changes, and after each start.
@@ -25,6 +26,7 @@ SETTINGS = " ".join(
         "client_encoding": "UTF8",
         "xmloption": "content",
         "search_path": "pg_catalog",
+        "synchronous_commit": "on",
     }.items()
 )
 
@@ -34,6 +36,14 @@ left join pg_type e on e.oid = b.typelem where t.oid = any(%s)"""
 
 _COLUMNS = """select attname, atttypid, attgenerated <> '', attnotnull from pg_attribute
 where attrelid = %s and attnum > 0 and not attisdropped order by attnum"""
+
+# what a column list leaves out isn't sent; the place is asked for behind what is seen
+_LOOK = """select pg_current_wal_insert_lsn() - '0/0'::pg_lsn, relfilenode::bigint, relnatts, attnum, attname,
+atttypid::bigint, atttypmod, a.xmin::text::bigint, attgenerated = '' and not exists (
+    select from pg_publication_rel r join pg_publication p on p.oid = prpubid
+    where pubname = %s and prrelid = c.oid and not attnum = any(prattrs::int2[]))
+from pg_class c join pg_attribute a on attrelid = c.oid
+where c.oid = %s and attnum > 0 and not attisdropped order by attnum"""
 
 _INDEXES = """select i.indisprimary, i.indisreplident, a.attname from pg_index i
 join pg_attribute a on a.attrelid = i.indrelid and a.attnum = i.indkey[0]
@@ -54,6 +64,18 @@ def is_ready(link: Any, seconds: float) -> bool:
         raise psycopg2.InterfaceError("the connection has no socket any more") from None
 
 
+# the slot is read by another, and the server is being shut down, has crashed or starts
+PASSING = ("55006", "57P01", "57P02", "57P03")
+
+
+def is_passing(error: psycopg2.Error) -> bool:
+    """Whether PostgreSQL is away, starts, or still has the connection of a capture that was killed; or says
+    behind a crash, now and then, that it finds no file or no name of a table that it had: a new connection
+    goes on."""
+    is_link = isinstance(error, (psycopg2.OperationalError, psycopg2.InterfaceError, psycopg2.InternalError))
+    return is_link or error.pgcode in PASSING or (error.pgcode is None and isinstance(error, psycopg2.DatabaseError))
+
+
 class Catalog:
     """Asks over a connection of its own, which is opened anew where it broke."""
 
@@ -68,9 +90,22 @@ class Catalog:
         self.link = None
 
     def ask(self, text: str, *values: Any) -> List[Tuple[Any, ...]]:
-        if self.link is None:
+        """What PostgreSQL answers; over another connection where the one that stood has ended."""
+        if self.link is not None:
+            try:
+                return self.asked(text, *values)
+            except psycopg2.Error as error:
+                if not is_passing(error):
+                    raise
+        try:
             self.link = connected(self.said.dsn)
-            self.link.autocommit, self.has_ended = True, False
+        except psycopg2.Error:
+            self.has_ended = True
+            raise
+        self.link.autocommit, self.has_ended = True, False
+        return self.asked(text, *values)
+
+    def asked(self, text: str, *values: Any) -> List[Tuple[Any, ...]]:
         try:
             with self.link.cursor() as cursor:
                 cursor.execute(text, values)
@@ -80,14 +115,19 @@ class Catalog:
             self.close()
             raise
 
+    def tried(self, text: str, *values: Any) -> Optional[List[Tuple[Any, ...]]]:
+        """The same; None where PostgreSQL is away or ends."""
+        try:
+            return self.ask(text, *values)
+        except psycopg2.Error as error:
+            if not is_passing(error):
+                raise
+            return None
+
     def is_ended(self) -> bool:
-        """Whether PostgreSQL ended the connection, which it does first where it is shut down, and no other was opened
-        since."""
+        """Whether PostgreSQL ended the connection, which it does first where it is shut down, and takes no other."""
         if self.link is not None and is_ready(self.link, 0):
-            try:
-                self.ask("select 1")
-            except psycopg2.Error:
-                self.has_ended = True
+            self.tried("select 1")
         return self.has_ended
 
     def types_of(self, numbers: Sequence[int]) -> List[Type]:
@@ -147,6 +187,25 @@ class Catalog:
         )
         self.see_identity(table, identity, self.ask(_INDEXES, number), [it[0] for it in columns if it[3]])
         return shape
+
+    def look(self, shape: Shape, cursor: Any = None) -> Look:
+        """A table as it is by now, or as the snapshot of a cursor has it."""
+        words = (self.said.publication, shape.number)
+        if cursor is None:
+            rows = self.ask(_LOOK, *words)
+        else:
+            cursor.execute(_LOOK, words)
+            rows = cursor.fetchall()
+        if not rows:
+            raise Broken(BAD, f"{shape.table.place}: {shape.table.name} is no longer there: begin a log with a new id")
+        place, file, most = rows[0][:3]
+        columns = {it[3]: Seen(*it[4:8]) for it in rows if it[8]}
+        return Look(int(place), file, most, frozenset(it[3] for it in rows), columns)
+
+    def alike(self, one: int, other: int) -> bool:
+        """Whether a value that isn't written anew is printed the same as of either type."""
+        types = self.types_of([one, other])
+        return types[0] == types[1] or all(it.kind == "b" and it.name in ("text", "varchar") for it in types)
 
     @staticmethod
     def see_identity(table: Table, identity: str, indexes: List[Tuple[Any, ...]], not_null: List[str]) -> None:

@@ -23,10 +23,11 @@ FORKED, LOST = 2, 3
 
 class Kept(abc.ABC):
     """A log that is kept. `frames` is asked once, at the start; behind it `number` and `time` say how far these entries
-    go."""
+    go, and `is_cut` whether a part of the next transaction stands behind them."""
 
     name = ""
     number = time = 0
+    is_cut = False
 
     @abc.abstractmethod
     def frames(self) -> Iterator[bytes]:
@@ -67,6 +68,7 @@ class KeptByEngine(Kept):
     def frames(self) -> Iterator[bytes]:
         last = self.publisher.kept_up(self.store.last, 1)
         end = self.publisher.kept_up(self.last_whole) or last
+        self.is_cut = last > end
         reading: Optional[Reading] = None
         before: Optional[Block] = None
         while self.number < end:
@@ -212,7 +214,7 @@ class KeptByNode(Kept):
         for at, time in enumerate(sorted(by_time), 1):
             ends, rows = by_time[time]
             self.there[number + at] = digest(encode(Entry.of(self.log, 1, number + at, time, ends, rows)))
-        self.number = number
+        self.number, self.is_cut = number, bool(by_time)
 
     def put(self, frame: bytes) -> None:
         if frame[5] == 1 and self.there:

@@ -4,7 +4,7 @@ from __future__ import annotations
 
 import json
 import struct
-from typing import Any, Callable, Dict, Iterable, Iterator, NamedTuple, Optional, Tuple
+from typing import Any, Callable, Dict, Iterable, Iterator, NamedTuple, Optional, Set, Tuple
 
 from json.decoder import scanstring  # type: ignore[attr-defined]
 
@@ -13,7 +13,7 @@ from keys import Births, Place
 from shapes import Written
 from spilling import Spilling
 from vadungsil import LogWriter, encode
-from vadungsil.postgres import COMMIT, OWN, TIMES, Long, digest_of, last_time, long_of
+from vadungsil.postgres import COMMIT, OWN, TIMES, Long, key_and_check, last_time, long_of
 from vadungsil.values import MOST_BODY, MOST_WRITES
 
 # what a body that stands in parts begins with
@@ -59,8 +59,10 @@ class Changes:
         self.rows = Spilling(Written)
         self.has_long = False
         self.count = 0  # changes that came
+        self.tables: Set[int] = set()  # the tables that have some
 
     def put(self, table: int, row: Written) -> None:
+        self.tables.add(table)
         self.rows.put((table, row.key), row)
         self.has_long = self.has_long or len(row.body) > MOST_BODY
 
@@ -182,6 +184,27 @@ class Log:
         self.standing = Standing(transaction, lsn, latest)
         self.out(encode(self.writer.mark(1)))
 
+    def note(self, rows: Dict[int, Optional[bytes]]) -> None:
+        """Writes rows of table 0 as a transaction of their own, at the place where the log is; None ends one. They are
+        one entry, so that no part of them ever stands alone."""
+        transaction, lsn, latest = self.standing
+        if len(rows) >= MOST_WRITES:
+            raise Broken(BAD, f"what is remembered of the tables takes {len(rows)} rows")
+        self.index = 0
+        said = {"transaction": transaction + 1, "lsn": lsn, "xid": 0, "clock": latest, "latest": latest}
+        writes = (((OWN, key), None if body is None else (0, body)) for key, body in sorted(rows.items()))
+        self.write(transaction + 1, writes, json.dumps(said, separators=(",", ":")).encode())
+        self.keep_own(rows)
+        self.standing = Standing(transaction + 1, lsn, latest)
+        self.out(encode(self.writer.mark(1)))
+
+    def keep_own(self, rows: Dict[int, Optional[bytes]]) -> None:
+        for key, body in rows.items():
+            if body is None:
+                self.own.pop(key, None)
+            else:
+                self.own[key] = body
+
     def writes_of(self, changes: Changes) -> Tuple[Iterator[Tuple[Place, Any]], Dict[Place, Long]]:
         """All that is written for rows, with their parts, in order of table and key; and which rows have parts."""
         if not self.longs and not changes.has_long:
@@ -270,10 +293,17 @@ class Log:
     def load_begin(self, rows: Dict[int, bytes]) -> None:
         """Begins the first transaction, or begins it anew behind what stands of it, with rows of table 0. What is of
         before goes at the end."""
+        self.own.clear()
         self.index = self.writer.time % TIMES + 1 if self.writer.time else 0
         self.load_from = TIMES + self.index
         self.next_part = max([PARTS - 1, *self.births.table(self.parts)]) + 1
         self.write(1, [((OWN, key), (0, body)) for key, body in sorted(rows.items())], None)
+
+    def load_own(self, rows: Dict[int, Optional[bytes]]) -> None:
+        """Writes rows of table 0 that say more than those it began with."""
+        there = {key: body for key, body in rows.items() if body is not None}
+        self.write(1, [((OWN, key), (0, body)) for key, body in sorted(there.items())], None)
+        self.keep_own(there)  # type: ignore[arg-type]
 
     def load(self, changes: Changes) -> None:
         """Writes rows that stand."""
@@ -301,4 +331,4 @@ def check_of(body: bytes, long: Optional[Long]) -> int:
     if key is None:
         text = body.decode()
         key = scanstring(text, scanstring(text, 2)[1] + 2)[0]
-    return int.from_bytes(digest_of(key)[8:], "big")
+    return key_and_check(key)[1]

@@ -29,6 +29,7 @@ class Column(NamedTuple):
     name: str
     type: int  # its number in pg_type
     is_key: bool  # it is sent of a row that goes
+    modifier: int  # of its type, as a length
 
 
 class Relation(NamedTuple):
@@ -111,9 +112,9 @@ def relation_of(data: bytes) -> Relation:
     for _ in range(count):
         flags = data[at]
         column, at = text_at(data, at + 1)
-        kind, _ = _COLUMN.unpack_from(data, at)
+        kind, modifier = _COLUMN.unpack_from(data, at)
         at += 8
-        columns.append(Column(column, kind, bool(flags & 1)))
+        columns.append(Column(column, kind, bool(flags & 1), modifier))
     return Relation(number, f"{schema}.{name}", identity, tuple(columns))
 
 

@@ -4,11 +4,12 @@ from __future__ import annotations
 import json
 import math
 from json.encoder import encode_basestring as quoted  # type: ignore[attr-defined]
-from typing import Dict, List, NamedTuple, Optional, Sequence, Tuple
+from typing import Any, Dict, List, NamedTuple, Optional, Sequence, Tuple
 
 from configuration import BAD, Broken, Table
 from pgoutput import UNCHANGED, Unchanged, Values
-from vadungsil.postgres import digest_of, key_of, tag_of
+from remembering import Past
+from vadungsil.postgres import key_and_check, key_of, tag_of
 
 # how a value of a type stands in a body: as PostgreSQL prints it where that is JSON, else as a text
 NUMBERS = {"int2", "int4", "int8", "oid"}
@@ -67,6 +68,7 @@ class Written(NamedTuple):
     tag: int
     body: bytes
     key_text: str  # the key's column as JSON
+    era: int = 0  # of its table, in which it came
 
 
 def as_number(value: str) -> str:
@@ -74,7 +76,9 @@ def as_number(value: str) -> str:
 
 
 def as_float(value: str) -> str:
-    return value if math.isfinite(float(value)) else quoted(value)  # type: ignore[no-any-return]
+    """What JSON doesn't carry is a text: no number, none that ends, and -0, which most read as 0."""
+    is_carried = math.isfinite(float(value)) and value != "-0"
+    return value if is_carried else quoted(value)  # type: ignore[no-any-return]
 
 
 def as_bool(value: str) -> str:
@@ -101,6 +105,7 @@ class Shape:
                     "here; leave it out by `columns`",
                 )
         self.see_key_and_tag()
+        self.era, self.pasts = 0, {}  # type: int, Dict[str, Past]
         ordered = [table.key, *(name for name in wanted if name != table.key)]
         self.fields = [
             (self.names.index(name), ("{" if name == table.key else ",") + quoted(name) + ":", self.writer(name))
@@ -146,8 +151,7 @@ class Shape:
             raise Broken(BAD, f"a row of {self.table.name} came without its key {self.table.key}")
         if not self.is_hashed:
             return key_of(int(value)), 0
-        digest = digest_of(value)
-        return int.from_bytes(digest[:8], "big"), int.from_bytes(digest[8:], "big")
+        return key_and_check(value)
 
     def tag(self, values: Values) -> int:
         if self.tag_at < 0:
@@ -167,21 +171,43 @@ class Shape:
             parts.append("null" if value is None else write(value))
         parts.append("}")
         key, check = self.key(values)
-        return Written(key, check, self.tag(values), "".join(parts).encode(), parts[1])
+        return Written(key, check, self.tag(values), "".join(parts).encode(), parts[1], self.era)
 
     def lacks(self, values: Values) -> List[str]:
         """The columns whose values aren't sent since they did not change."""
         return [self.names[at] for at, _, _ in self.fields if values[at] is UNCHANGED]
 
-    def filled(self, values: Values, body: bytes) -> Values:
-        """The values of a row with what wasn't sent from the body of before. Such values are texts."""
+    def filled(self, values: Values, body: bytes, names: Dict[str, str]) -> Values:
+        """The values of a row with what wasn't sent from the body of before, by the names of then. Such values are
+        texts."""
         before: Dict[str, Optional[str]] = json.loads(body)
         whole = list(values)
-        for name in self.lacks(values):
-            if name not in before:
+        for name, of_then in names.items():
+            if of_then not in before:
                 raise Broken(
                     BAD,
-                    f"column {name} of {self.table.name} did not change, and the row of before has no " "such column",
+                    f"column {name} of {self.table.name} did not change, and the row of before has no such column",
                 )
-            whole[self.names.index(name)] = before[name]
+            whole[self.names.index(name)] = before[of_then]
         return whole
+
+
+class Spelling(str):
+    """A number of JSON as it is spelled."""
+
+
+def under_names(body: bytes, names: Dict[str, str]) -> bytes:
+    """A body whose columns have other names; one that isn't among them gives way to one that gets its name."""
+    said = json.loads(body, parse_int=Spelling, parse_float=Spelling)
+    parts = [
+        f"{quoted(names.get(name, name))}:{spelled(value)}"
+        for name, value in said.items()
+        if name in names or name not in names.values()
+    ]
+    return ("{" + ",".join(parts) + "}").encode()
+
+
+def spelled(value: Any) -> str:
+    if value is None or isinstance(value, bool):
+        return json.dumps(value)
+    return str(value) if isinstance(value, Spelling) else str(quoted(value))

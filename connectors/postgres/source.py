@@ -13,7 +13,8 @@ from catalog import Catalog, connected, is_ready, names_of
 from configuration import BAD, Broken, Configuration
 from pgoutput import Decoder, Message, Value
 from shapes import Shape
-from vadungsil.postgres import lsn_of, place_of
+from vadungsil.postgres import lsn_of
+from waiting import Waiting
 
 # how long a silent link may be, in seconds, before the server is told that we live; it gives up after 60
 ALIVE = 10.0
@@ -24,10 +25,12 @@ _ESCAPES = {"b": "\b", "f": "\f", "n": "\n", "r": "\r", "t": "\t", "v": "\v"}
 class Source:
     """The replication connection, opened anew where it broke.
 
-    No place is to be confirmed to PostgreSQL that the log doesn't have, for by that a lost tail is known. psycopg2 by
-    itself confirms each place up to which nothing came, where the last message is confirmed. So the last one never is:
-    of a commit all is confirmed but its last byte, which means the same, and so that a message is there a `beat` stands
-    in the write-ahead log before the first is read."""
+    psycopg2 by itself confirms a place up to which nothing came, where what was confirmed is at or behind the last
+    message. That is so while a transaction comes whose changes are older than what was confirmed, and before the first
+    message; it then confirms what is before that transaction's commit. So where such a message has come,
+    `confirms_itself` says so, and all that came before is kept before the next is read. Between transactions it never
+    is so: of a commit all is confirmed but its last byte, which means the same, and a `beat` stands in the write-ahead
+    log before the first message is read."""
 
     def __init__(self, said: Configuration, catalog: Catalog) -> None:
         self.said, self.catalog = said, catalog
@@ -35,6 +38,7 @@ class Source:
         self.cursor: Any = None
         self.decoder = Decoder()
         self.confirmed, self.told = 0, 0.0
+        self.last, self.heard = 0, 0.0  # the place of the last message, and when it came
 
     def drop(self) -> None:
         self.catalog.close()
@@ -54,21 +58,32 @@ class Source:
 
     # ------------------------------------------------------------ the rows that stand
 
-    def make_slot(self) -> Tuple[int, str]:
+    def make_slot(self, say: Callable[[str], None]) -> Tuple[int, str]:
         """Makes the slot: from where it sends transactions, and the name of a snapshot that has all from before. The
-        snapshot is there until the next command over this connection."""
+        snapshot is there until the next command over this connection. What PostgreSQL waits for is said."""
         cursor = self.open()
-        cursor.execute(f"CREATE_REPLICATION_SLOT {self.said.slot} LOGICAL pgoutput EXPORT_SNAPSHOT")
+        with Waiting(self.said, self.link.info.backend_pid, say):
+            cursor.execute(f"CREATE_REPLICATION_SLOT {self.said.slot} LOGICAL pgoutput EXPORT_SNAPSHOT")
         _, point, snapshot, _ = cursor.fetchone()
         return lsn_of(point), snapshot
 
-    def rows(self, snapshot: str, shapes: Dict[str, Shape], take: Callable[[Shape, List[Value]], None]) -> None:
-        """Hands on each row of a snapshot."""
+    def rows(
+        self,
+        snapshot: str,
+        shapes: Dict[str, Shape],
+        see: Callable[[Any], None],
+        take: Callable[[Shape, List[Value]], None],
+    ) -> None:
+        """Hands on each row of a snapshot, once no table can be altered any more and what its cursor shows was seen."""
         link = connected(self.said.dsn)
         try:
             link.set_session(isolation_level="REPEATABLE READ", readonly=True)
             with link.cursor() as cursor:
                 cursor.execute("SET TRANSACTION SNAPSHOT %s", (snapshot,))
+                for shape in shapes.values():
+                    text = sql.SQL("SELECT {} FROM ONLY {} LIMIT 0")
+                    cursor.execute(text.format(sql.Identifier(shape.table.key), names_of(shape.table)))
+                see(cursor)
                 for shape in shapes.values():
                     columns = sql.SQL(", ").join(sql.Identifier(name) for name in shape.names)
                     text = sql.SQL("COPY (SELECT {} FROM ONLY {}) TO STDOUT").format(columns, names_of(shape.table))
@@ -80,7 +95,7 @@ class Source:
 
     def start(self) -> None:
         """Begins to read behind what was confirmed to PostgreSQL."""
-        self.decoder = Decoder()
+        self.decoder, self.last = Decoder(), 0
         self.beat()
         quoted = self.said.publication.replace('"', '""')
         options = {"proto_version": "1", "messages": "true", "publication_names": f'"{quoted}"'}
@@ -93,18 +108,19 @@ class Source:
             is_ready(self.cursor, seconds)
             message = self.cursor.read_message()
         self.live()
-        return None if message is None else self.decoder.decode(message.payload)
+        if message is None:
+            return None
+        self.last, self.heard = message.data_start, time.monotonic()
+        return self.decoder.decode(message.payload)
+
+    def confirms_itself(self) -> bool:
+        """Whether the next read may confirm what came before the transaction that comes."""
+        return self.last <= self.confirmed
 
     def confirm(self, lsn: int) -> None:
         """Confirms to PostgreSQL that all up to behind a commit is kept."""
         if lsn - 1 > self.confirmed:
             self.confirmed = lsn - 1
-            self.tell()
-
-    def confirm_all(self, lsn: int) -> None:
-        """Confirms to PostgreSQL that all is kept that it sent: it ends then."""
-        if lsn > self.confirmed:
-            self.confirmed = lsn
             self.tell()
 
     def live(self) -> None:
@@ -149,22 +165,3 @@ def plain(text: str) -> Optional[str]:
             letter = _ESCAPES.get(letter, letter)
         parts.append(letter)
     return "".join(parts)
-
-
-def see_slot(said: Configuration, catalog: Catalog, lsn: int, name: str) -> None:
-    """The slot is there, and goes on where the log ends (3)."""
-    slot = catalog.slot()
-    if slot is None:
-        raise Broken(
-            3, f"slot {said.slot} is gone, and what happened since {name} ends is lost: begin a log with a " "new id"
-        )
-    database = catalog.name()[1]
-    if slot[0] != database:
-        raise Broken(BAD, f"slot {said.slot} is of the database {slot[0]}, and dsn names {database}")
-    if slot[1] > lsn:
-        raise Broken(
-            3,
-            f"more was confirmed to PostgreSQL than {name} has, up to {place_of(slot[1])} and not "
-            f"{place_of(lsn)}: {name} lost its tail, "
-            "and those transactions can't be had again. Begin a log with a new id",
-        )

@@ -1,6 +1,6 @@
 """A log in Redis: stream S of log L is the Redis stream `hekaton:L:S`, one message a block
-(connectors/common/blocks.py), in the field `b`. A message of before blocks were, with one item frame in the field `f`,
-is a block too, and has the id that a block would have.
+(connectors/common/blocks.py), in the field `b`, and its SHA-256 in the field `s`. A message of before blocks were, with
+one item frame in the field `f`, is a block too, and has the id that a block would have.
 
 The id of a message says how far it goes: n is the last entry in it, k counts the messages with marks alone behind it,
 and the id is n-k. So the place of an entry is known without a cursor, an entry can't stand there twice, and none can
@@ -20,7 +20,7 @@ sys.path.append(str(pathlib.Path(__file__).resolve().parent.parent / "common"))
 
 import redis  # noqa: E402
 
-from blocks import Block, Broken, no_block, walked  # noqa: E402
+from blocks import Block, Broken, no_block, see_sum, sum_of, walked  # noqa: E402
 from engine_log import EngineLog, Moved, Reading, add_log_words, see_log  # noqa: E402
 from finding import OwnersConnection, through_cluster, through_sentinels  # noqa: E402
 
@@ -161,6 +161,7 @@ class LogInRedis(EngineLog):
         data = fields.get(b"b", fields.get(b"f"))
         if data is None:
             raise no_block(name, "it has no field b")
+        see_sum(name, fields.get(b"s", b""), data)
         block = walked(data, last, self.log, stream, name)
         if (block.last >= block.first) != (beside == 0):
             raise no_block(name, f"its id is one of {'entries' if beside == 0 else 'marks alone'}")
@@ -174,7 +175,7 @@ class LogInRedis(EngineLog):
         place = behind
         for block in blocks:
             place = (block.last, 0 if block.last >= block.first else place[1] + 1)
-            words += [text_of(place), block.data]
+            words += [text_of(place), block.data, sum_of(block.data)]
         self.check_file()
         if not blocks and not self.replicas and not self.fsync:
             return place

@@ -144,13 +144,13 @@ def follow(brokers, port, entries):
     """Four lives of a follower, of which three end in the middle."""
     said = argparse.Namespace(only=None, node=[str(port)], ahead=4, source=None, until=entries, once=False, batch=20, block=200, patience=5)
     for _ in range(3):
-        follower = Follower(LogInKafka(brokers, 7, STREAMS), said)
+        follower = Follower(LogInKafka(brokers, 7, STREAMS), said, str(port))
         while not follower.step():
             pass
-        follower.nodes[0].unlink()
-    follower = Follower(LogInKafka(brokers, 7, STREAMS), said)
+        follower.node.unlink()
+    follower = Follower(LogInKafka(brokers, 7, STREAMS), said, str(port))
     follower.run()
-    return follower.nodes[0].link().front()
+    return follower.node.link().front()
 
 
 def main(entries):

@@ -18,13 +18,14 @@ import time
 
 sys.dont_write_bytecode = True
 ROOT = pathlib.Path(__file__).resolve().parent.parent.parent
-sys.path.insert(0, str(ROOT / "clients" / "python"))
+sys.path[:0] = [str(ROOT / "clients" / "python"), str(ROOT / "connectors" / "common")]
+from built import hkrep, needed_hkrep
 from vadungsil import LogWriter, Node, encode
 from vadungsil.address import host_and_port
 from vadungsil.web import Server
 from vadungsil.web.server import serve_beside
 
-PROGRAM = str(ROOT / "bin" / "hkrep")
+PROGRAM = str(hkrep())
 LOG, STREAMS, TABLE, KEPT, LATE, BLOCK, PACE = 7, 3, 1, 300, 2.0, 4, 0.05
 NAMES = ("ada", "bob", "cyd", "dan", "eve", "fay", "gil", "hal", "ida", "jon")
 
@@ -112,6 +113,7 @@ def main():
     words.add_argument("--seconds", type=float, help="end after so many seconds; without it at Ctrl-C")
     words.add_argument("--http", default="127.0.0.1:8080", metavar="HOST:PORT", help="where the page is (127.0.0.1:8080); port 0 takes a free one")
     words = words.parse_args()
+    needed_hkrep()
     port = free_port()
     child = node_on(port)
     try:

@@ -13,10 +13,12 @@ import sys
 import time
 
 sys.dont_write_bytecode = True
-sys.path.insert(0, str(pathlib.Path(__file__).resolve().parent.parent.parent / "clients" / "python"))
+ROOT = pathlib.Path(__file__).resolve().parent.parent.parent
+sys.path[:0] = [str(ROOT / "clients" / "python"), str(ROOT / "connectors" / "common")]
 import vadungsil
+from built import hkrep, needed_hkrep
 
-PROGRAM = str(pathlib.Path(__file__).resolve().parent.parent.parent / "bin" / "hkrep")
+PROGRAM = str(hkrep())
 LOG, TABLE, TAG, KEYS, LAST = 7, 1, 9, 10, 200
 LIMIT, BLOCK, DELAY = 20, 10, 30
 
@@ -147,6 +149,7 @@ def compare(one, other):
 
 
 def main():
+    needed_hkrep()
     port = int(sys.argv[1]) if len(sys.argv) > 1 else 7427
     start = time.monotonic()
     nodes = []

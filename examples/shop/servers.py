@@ -17,10 +17,10 @@ sys.dont_write_bytecode = True
 ROOT = pathlib.Path(__file__).resolve().parent.parent.parent
 sys.path[:0] = [str(ROOT / "connectors" / "postgres"), str(ROOT / "connectors" / "common"),
                 str(ROOT / "clients" / "python")]
+from built import hkrep
 
 PATIENCE = 60.0
-HKREP = next((it for it in (ROOT / "bin" / "hkrep", ROOT / "bin" / "hkrep-unproved") if it.exists()),
-             ROOT / "bin" / "hkrep")
+HKREP = hkrep()
 CAPTURE = ROOT / "connectors" / "postgres" / "capture"
 
 
@@ -131,8 +131,8 @@ class Postgres:
     def start(self) -> "Postgres":
         """Starts it, again where what a killed server left still ends."""
         settings = {"wal_level": "logical", "listen_addresses": "", "unix_socket_directories": self.folder,
-                    "fsync": "off", "max_wal_senders": 10,
-                    "logging_collector": "off", "shared_buffers": "64MB"}
+                    "fsync": "off", "max_wal_senders": 20, "max_replication_slots": 20,
+                    "max_prepared_transactions": 20, "logging_collector": "off", "shared_buffers": "64MB"}
         words = [word for name, value in settings.items() for word in ("-c", f"{name}={value}")]
         for _ in range(100):
             self.server = self.programs.start(*self.as_user(), f"{self.bin}/postgres", "-D", f"{self.folder}/data",

@@ -286,6 +286,23 @@ def silent_nodes():
     report("a node that replies nothing", differ(pairs))
 
 
+def dropped():
+    """An address that takes no further connection and says nothing is waited for as long as a command tries to connect, in each command."""
+    pairs = []
+    with Node(2) as node, socket.socket() as full, socket.socket() as first:
+        full.bind(("127.0.0.1", 0))
+        full.listen(0)
+        port = full.getsockname()[1]
+        first.connect(("127.0.0.1", port))
+        # room for one connection that isn't accepted: the system drops what comes now
+        for words in (["front", "--port", port], ["feed", "--node", f"localhost:{port}"], ["pull", "--port", node.port, "--from", port]):
+            start = time.monotonic()
+            out, status, told = run(*words, "--connect-seconds", 1, data=FIRST)
+            took = time.monotonic() - start
+            pairs += [(" ".join(map(str, words[:1])), (out, status, told.startswith("refused 93: can't connect to ")), (b"refused 93\n", 1, True)), ("within its time", 0.9 < took < 6, True)]
+    report("an address that drops what comes", differ(pairs))
+
+
 def told_apart():
     """A link that can't be opened, one that is cut, and input that is cut are told apart."""
     pairs, nobody = [], free_port()
@@ -631,7 +648,7 @@ def main():
     if not is_built(PROGRAM):
         return ended()
     start = time.monotonic()
-    for check in (there_and_back, bad_lines, json_answers, over_a_link, shell, shown_bodies, one_grammar, connected_later, silent_nodes, told_apart, addressed, named_around,
+    for check in (there_and_back, bad_lines, json_answers, over_a_link, shell, shown_bodies, one_grammar, connected_later, silent_nodes, dropped, told_apart, addressed, named_around,
                   no_nodes, other_logs, misplaced, terminals, words_that_mislead, how_many_were_new, waited_fronts, waited_answers, told_numbers):
         if not sys.argv[1:] or check.__name__ in sys.argv[1:]:
             guarded(check)

@@ -365,6 +365,60 @@ def flooded_without_files():
     report("a node that can open no further file", differ(pairs + [("it is told", told, True)]) + within("lines on standard error", lines, MOST_LINES), f"{lines} lines in three seconds, at most {MOST_LINES}")
 
 
+# ---------------------------------------------------------------- a node that is full
+
+# how many bytes of address space it may take, and how many rows of how many bytes an entry has; it has to have taken so many before it is full
+FULL_SPACE, FULL_ROWS, FULL_BODY, FULL_LEAST = 400 * MEGABYTE, 1_000, 500, 100
+
+
+def new_versions(number):
+    """An entry that gives each of so many keys a new row in place of the one of the entry before, and its mark."""
+    rows, ends = [(1, key, 9, b"x" * FULL_BODY) for key in range(FULL_ROWS)], [(1, key, number - 1) for key in range(FULL_ROWS)]
+    return say.items(say.entry(number, number, rows, ends if number > 1 else []), say.mark(1, number, number))
+
+
+def fed_until_full(node):
+    """Gives a node entries until it takes one no more; gives how many it took, and whether it said so, or ended the connection, for want of memory."""
+    with node.link() as link:
+        for number in range(1, 2_000):
+            try:
+                told = link.ask(new_versions(number))
+            except ConnectionError:
+                told = None
+            if told != ("done", number + 1):
+                return number - 1, told in (None, LACKS_ROOM)
+    return number, False
+
+
+def asked_of_full(node, request):
+    """What a node that is full replies, over a connection for which it finds memory at last."""
+    until = time.monotonic() + 10
+    while time.monotonic() < until:
+        with contextlib.suppress(OSError), node.link() as link:
+            told = link.ask(request)
+            if told not in (None, LACKS_ROOM):
+                return told
+        time.sleep(0.05)
+    return None
+
+
+def a_full_node():
+    """A node whose memory has a limit refuses what would grow beyond it (90), or ends the connection for which it finds none, and goes on: it answers, says what its
+    limit is, and once what it has is pruned it is fed again. A prune takes memory for the list of what it drops, so the first ones drop little."""
+    with OwnNode("--workers", 2, "-q", before=("env", "MALLOC_ARENA_MAX=1"), RLIMIT_AS=FULL_SPACE) as node:
+        taken, is_told = fed_until_full(node)
+        pairs = [("it said so", is_told, True), ("it took some", taken >= FULL_LEAST, True), ("a row", asked_of_full(node, say.ask(taken, say.get(1, 0))), ("row", (9, b"x" * FULL_BODY))),
+                 ("its limit", line_of_limit(node), f"memory_limit {FULL_SPACE}"), ("prunes", [asked_of_full(node, say.prune(at)) for at in (10, 20, 100, taken)], [("done", taken + at) for at in (2, 3, 4, 5)]),
+                 ("it is fed again", asked_of_full(node, new_versions(taken + 1)), ("done", taken + 6)), ("it runs on", node.child.poll(), None)]
+    report("a node that is full", differ(pairs), f"{taken * FULL_ROWS} versions of {FULL_BODY} bytes in {megabytes(FULL_SPACE)}")
+
+
+def line_of_limit(node):
+    """The line of a node's limit of memory, as `hkrep status --stats` prints it."""
+    ran = subprocess.run([PROGRAM, "status", "--stats", "--port", str(node.port)], capture_output=True, text=True, timeout=LIMIT, check=False)
+    return next((line for line in ran.stdout.splitlines() if line.startswith("memory_limit")), ran.stdout + ran.stderr)
+
+
 # ---------------------------------------------------------------- a node that failed
 
 OTHER_ROW = say.join_this(facts=[(1, 5, 1, (9, b"C"), None)])
@@ -413,7 +467,7 @@ def what_a_failed_node_answers():
 
 
 CHECKS = ((unread_snapshots, 16), (unread_snapshots, 60), (lengths_of_readers,), (half_frames,), (changes_beside_snapshots, 16), (changes_beside_snapshots, 63), (ends_with_pins,), (trickles,),
-          (flooded_without_files,), (what_a_failed_node_answers,))
+          (flooded_without_files,), (a_full_node,), (what_a_failed_node_answers,))
 
 
 def main():

@@ -49,6 +49,9 @@ insert into ticker values (1, 0);
 create role capture login replication;
 grant select on all tables in schema public to capture;
 alter default privileges grant select on tables to capture;
+grant execute on function pg_replication_origin_create(text), pg_replication_origin_drop(text),
+pg_replication_origin_oid(text), pg_replication_origin_progress(text, boolean),
+pg_replication_origin_advance(text, pg_lsn) to capture;
 create publication shop for table accounts, notes, files, ticker;"""
 
 CONFIGURATION = """log = 7
@@ -109,11 +112,11 @@ class Shop:
     def capture(self, *words, **more):
         return self.programs.start(CAPTURE, self.configuration, *words, **more)
 
-    def captured(self, *words, wanted=0, said=""):
+    def captured(self, *words, wanted=0, said="", limit=LIMIT):
         """Captures all that there is by now; sees the status and what is said."""
         done = subprocess.run([str(it) for it in (CAPTURE, self.configuration, *(words or ("--file", self.file)),
                                                   "--until", self.place())],
-                              stderr=subprocess.PIPE, text=True, timeout=LIMIT, check=False)
+                              stderr=subprocess.PIPE, text=True, timeout=limit, check=False)
         holds(done.returncode == wanted, f"capture: status {done.returncode}, wanted {wanted}: {done.stderr[-600:]}")
         holds(said in done.stderr, f"capture said {done.stderr[-600:]!r}, wanted {said!r}")
         return done.stderr

@@ -438,6 +438,8 @@ BAD_REPLIES = (
     ("a body above the most", "0000000a 01 23 01 01 00000009 1001", "refused 9"), ("rows that are not there", "00000007 01 23 02 ffffffff", "refused 10"),
     ("rows of one key", "0000001d 01 23 02 00000002 0000000000000005 00000009 0000 0000000000000005", "refused 7"))
 
+REFUSED_20 = bytes.fromhex("00000013 01 24 14 0000000000000000 0000000000000000")
+
 
 def push_to_bad_peers():
     problems = []
@@ -452,7 +454,7 @@ def push_to_bad_peers():
             ("a reply is cut", [say.done(2)[:9]], False, ["refused 1"]),
             ("a reply of a request's kind", [say.front()], False, ["refused 4"]),
             ("a reply of another version", [say.framed(b"\3\x20")], False, ["refused 3"]),
-            ("a kind of version 1 in version 2", [say.framed(b"\2\x20")], False, ["refused 4"]),
+            ("a kind of version 1 in version 2", [say.framed(b"\2\x20")], False, ["refused 3"]), ("another with a body", [bytes.fromhex("0000000402231100")], False, ["refused 3"]),
             ("a reply in version 2", [say.framed(b"\2\x46" + bytes(8))], False, ["refused 3"]),
             ("a reply that is too long", [say.u32(2 ** 28 + 1)], False, ["refused 2"]),
             ("done with 0", [say.done(0)], False, ["refused 6"]),
@@ -461,6 +463,10 @@ def push_to_bad_peers():
         out, status, lines = push(port, say.items() + say.front())
         thread.join(LIMIT)
         problems += differ([(name, (out.splitlines(), status, lines), (wanted, 1, 1))])
+    port, thread = peer([REFUSED_20, say.framed(b"\1\x21" + bytes(16))])
+    told = push(port, say.join_this() + say.front())
+    thread.join(LIMIT)
+    problems += differ([("nothing but its input is sent behind 20", told, ("refused 20\nfront horizon 0 readable 0\n", 1, 1))])
     nobody = free_port()
     problems += differ([("nobody listens", push(nobody, say.front()), ("refused 93\n", 1, 1))])
     report("push to peers that end, cut or malform their replies", problems)

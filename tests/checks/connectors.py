@@ -352,7 +352,7 @@ class Records(records_tried.Engine):
 
     def put(self, step):
         key, message = f"hekaton:{bad_records.LOG}:{step.stream}", f"{step.last}-{step.beside}"
-        self.client.xadd(key, {step.field: step.data}, id=message)
+        self.client.xadd(key, {step.field: step.data, **({"s": step.sum} if step.sum else {})}, id=message)
         return key if step.stream > 1 else f"message {message} of {key}"
 
     def do(self, step):

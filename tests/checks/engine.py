@@ -469,7 +469,7 @@ class Records(records_tried.Engine):
         if step.stream > 1:
             self.made_streams(step.stream)
         head = step.says if step.last is None else b"%d" % step.last
-        place = put_by_another(self.nats, bad_records.LOG, step.data, head, step.stream)
+        place = put_by_another(self.nats, bad_records.LOG, step.data, head, step.stream, step.sum)
         return f"message {place} of {self.key()}" if step.stream == 1 else f"hekaton_{bad_records.LOG}_{step.stream}"
 
     def do(self, step):
@@ -477,9 +477,10 @@ class Records(records_tried.Engine):
         self.nats.ask(f"$JS.API.STREAM.PURGE.{self.key()}", {"seq": step.below})
 
 
-def put_by_another(nats, log, data, last, stream=1):
+def put_by_another(nats, log, data, last, stream=1, its_sum=None):
     """Something else than `publish` adds a message; gives its sequence."""
-    token, text = nats.put(b"hekaton.%d.%d" % (log, stream), data, b"" if last is None else b"Hk-Last: %s\r\n" % last)
+    head = (b"" if last is None else b"Hk-Last: %s\r\n" % last) + (b"Hk-Sum: %s\r\n" % its_sum.hex().encode() if its_sum else b"")
+    token, text = nats.put(b"hekaton.%d.%d" % (log, stream), data, head)
     nats.send(text)
     told = json.loads(nats.take(token).data)
     holds("error" not in told, f"not added: {told}")

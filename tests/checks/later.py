@@ -21,6 +21,7 @@ from client import Node
 from messages import E1, E2, E3
 from packaged import PACKAGE
 from python_servers import Peer
+from saved_file import summed
 from staying import PROGRAM, Staying, is_silent
 from vector_values import is_of_version_2, vectors
 
@@ -362,7 +363,7 @@ def python_node():
                 plain.status()
                 problems.append("a node of version 1 replies")
             except va.Fault as fault:
-                problems += differ([("a node of version 1", (fault.number, "--messages 2" in str(fault)), (3, True)), ("and then", plain.count(1), 0)])
+                problems += differ([("a node of version 1", (fault.number, "--messages 2" in str(fault)), (3, True)), ("and then", plain.count(1, at=0), 0)])
 
         async def story():
             async with va.AsyncNode(served.port) as it:
@@ -505,9 +506,9 @@ def commands():
             pairs += [("a pull of the whole", ran("pull", "--port", target.port, "--from", large.port), ("done 2\n", 0)), ("takes all of it", state(target), whole)]
         frames = [say.add([fact]) for fact in whole[1]["facts"]] + [say.merge_parts(horizon=2, streams=[(3, 3, [], [])], count=2)]
         saved = ran("save", "--port", large.port)
-        pairs += [("a save in parts", saved, (b"".join(frames), 0)), ("one that is cut off", ran("save", "--port", cut.port), (frames[0], 1))]
+        pairs += [("a save in parts", saved, (summed(*frames), 0)), ("one that is cut off", ran("save", "--port", cut.port), (frames[0], 1))]
         with Node(20, words=LATER) as target:
-            pairs += [("a load of half", ran("load", "--port", target.port, data=frames[0]), ("added 1\n", 0)), ("takes nothing", target.link().ask(say.front()), ("front", 0, 0)),
+            pairs += [("a load of half", ran("load", "--port", target.port, data=frames[0]), ("added 1\nrefused 1\n", 1)), ("takes nothing", target.link().ask(say.front()), ("front", 0, 0)),
                       ("a load of parts", ran("load", "--port", target.port, data=saved[0]), ("added 1\nadded 2\ndone 2\n", 0)), ("takes the whole", state(target), whole),
                       ("a load without a part", ran("load", "--port", target.port, data=frames[0] + frames[2]), ("added 1\nrefused 8\n", 1)), ("changes nothing", state(target), whole),
                       ("a load of a hold", ran("load", "--port", target.port, data=say.hold(2)), ("refused 4\n", 1))]

@@ -112,6 +112,32 @@ def sent_on(links):
             link.send(data)
 
 
+def trickle(listener):
+    """Accepts one connection, and answers its request by a frame of which a byte comes each half second."""
+    with listener.accept()[0] as link, contextlib.suppress(OSError):
+        link.recv(100)
+        link.sendall(say.u32(1 << 28) + b"\2\x44")
+        while True:
+            link.sendall(b"\0")
+            time.sleep(0.5)
+
+
+def slow_sources():
+    """A node to begin with which trickles is given up half a minute after its reply began, and the next is asked."""
+    good = Staying(2, *LATER)
+    with good, socket.create_server(("127.0.0.1", 0)) as slow, good.link() as link:
+        link.ask(LARGE)
+        threading.Thread(target=trickle, args=(slow,), daemon=True).start()
+        start, port = time.monotonic(), slow.getsockname()[1]
+        with Running(["node", "--log", "7", "--streams", "1", "--port", "0", "--read-rate", "100", "--from", f"{port},{good.port}"]) as node:
+            pairs = [("it listens", (node.line(90) or "")[:12], "listening on")]
+            took = time.monotonic() - start
+            words = [it.split(" - ", 1)[1] for it in words_once(node, "readable 1") if " - from " in it]
+    pairs += [("not sooner", took > 29, True), ("the first", words[0][:-1] if words else None, f"from 127.0.0.1:{port}: request 1 to the source: refused 91: 127.0.0.1:{port} sends fewer than 100 bytes a second, "
+               "for half a minute; name another node, or give --read-rate less"), ("the next", words[1:], [f"from 127.0.0.1:{good.port}: front horizon 0 readable 1\n"])]
+    report("a source that trickles", differ(pairs))
+
+
 def slow_frames():
     """With a rate a link ends half a minute after a frame began of which a byte comes now and then, though it is never silent for long; not one that is quicker, or
     that waited meanwhile, and none where there is no rate."""
@@ -343,15 +369,15 @@ def few_files():
 def main():
     start = time.monotonic()
     if is_built(PROGRAM):
-        # it lasts longer than all others, so they are made meanwhile
-        slow = threading.Thread(target=guarded, args=(slow_frames,))
-        if not sys.argv[1:] or slow_frames.__name__ in sys.argv[1:]:
-            slow.start()
+        # they last longer than all others, which are made meanwhile
+        slow = [threading.Thread(target=guarded, args=(check,)) for check in (slow_frames, slow_sources) if not sys.argv[1:] or check.__name__ in sys.argv[1:]]
+        for thread in slow:
+            thread.start()
         for check in (unread_replies, silent_links, kept_bytes, halves, unread_bytes, before_a_wait, pinned_times, long_answers, paths, chosen_ports, few_files):
             if not sys.argv[1:] or check.__name__ in sys.argv[1:]:
                 guarded(check)
-        if slow.ident:
-            slow.join()
+        for thread in slow:
+            thread.join()
     print(f"what links are allowed: {time.monotonic() - start:.1f} s")
     return ended()
 

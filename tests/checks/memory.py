@@ -724,18 +724,19 @@ def size_of_request(case):
 
 
 def size_of_reply(case):
-    """A peer replies so to a request of `push`."""
+    """A peer replies so to a request of `push`, of the reply's version."""
     name, data, fault = case
+    asked = say.framed(b"\2\x30") if data[4] == 2 else say.front()
     with Page(waits=1) as page, socket.create_server(("127.0.0.1", 0)) as listener:
         listener.settimeout(LIMIT)
-        words = [PROGRAM, "push", "--port", str(listener.getsockname()[1])]
+        words = [PROGRAM, "push", "--messages", "2", "--port", str(listener.getsockname()[1])]
         with subprocess.Popen(words, stdin=subprocess.PIPE, stdout=subprocess.PIPE, stderr=subprocess.DEVNULL, env=page.environment()) as child:
-            child.stdin.write(say.front())
+            child.stdin.write(asked)
             child.stdin.close()
             link, _ = listener.accept()
             with link:
                 link.settimeout(LIMIT)
-                link.recv(len(say.front()), socket.MSG_WAITALL)
+                link.recv(len(asked), socket.MSG_WAITALL)
                 link.sendall(data)
                 link.shutdown(socket.SHUT_WR)
                 out = child.stdout.read().decode()

@@ -194,10 +194,10 @@ def unit(root):
 
     def command(name, field):
         line = re.search(rf"^{field}=-?(.*)$", of_units[name], re.M)[1]
-        return line.replace("%i", port).replace("%S", "")
+        return line.replace("%i", port).replace("%S", "").replace("$$", "$")
 
     settings = command(UNITS[0], "EnvironmentFile")
-    start = f". {settings}; {command(UNITS[0], 'ExecStart')} > /dev/null & node=$!\n{command(UNITS[0], 'ExecStartPost')} > /dev/null\n"
+    start = f". {settings}; {command(UNITS[0], 'ExecStart')} > /dev/null & node=$!\nexport MAINPID=$node\n{command(UNITS[0], 'ExecStartPost')} > /dev/null\n"
     (BARE / "hkrep").mkdir()
     lines = f"{start}hkrep feed --port {port} < /{SHARED}/examples/first.bin; hkrep ask --port {port} get 1 5\n" \
             f"printf '\\0\\0\\0\\2\\2\\60' | hkrep push --messages 2 --port {port}; {command(UNITS[1], 'ExecStart')} && kill -9 $node; wait $node\n" \
@@ -208,7 +208,7 @@ def unit(root):
     # the last is Streams, a request of version 2, which the calls of docs/PYTHON.md need
     told = "streams log 7 horizon 0 readable 1 operations 2\nstream 1 prefix 1 extra 0 closed 1 waiting 0\n"
     report("the units' command lines start a node that answers, also messages of version 2, and save it; then it comes back with what it had",
-           differ([("prints", said, f"done 2\n9 41\n{told}9 41\nfront horizon 0 readable 1\n"), ("saved", saved, [f"{port}.save"])]))
+           differ([("prints", said, f"done 2\n9 41\n{told}9 41\nfront horizon 0 readable 1\n"), ("saved", saved, [f"{port}.save", f"{port}.save.1"])]))
 
 
 def is_due():

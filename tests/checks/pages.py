@@ -44,6 +44,7 @@ UNTYPED = {
     "make crate": "proves a crate: a minute and more",
     "make lint": "the gate runs its recipe as a check of its own",
     "make hooks": "puts a hook into the clone",
+    "STORY=WORDS tests/checks/postgres.py": "plays some of the stories that the gate plays whole",
     "bench/core": "proves a dozen crates, by hand",
     "bench/node": "needs what bench/core builds",
     "debootstrap": "fetches a Debian; tests/checks/package.py makes a root of what is here",
@@ -105,7 +106,7 @@ def asked_node():
 
 def bash(command):
     command = command.replace("bin/hkrep", str(PROGRAM.relative_to(ROOT))) if PROGRAM == UNPROVED else command
-    ran = subprocess.run(["bash", "-c", command], cwd=ROOT, stdout=subprocess.PIPE, stderr=subprocess.PIPE, text=True, timeout=60, check=False)
+    ran = subprocess.run(["bash", "-c", command], cwd=ROOT, stdout=subprocess.PIPE, stderr=subprocess.PIPE, text=True, errors="replace", timeout=60, check=False)
     return ran.stdout, ran.returncode
 
 
@@ -547,7 +548,7 @@ def words_shown():
 
 # what a user reads, and how many words that may be
 FOR_USERS = ("README.md", *(f"docs/{it}.md" for it in ("GETTING_STARTED", "PYTHON", "OPERATING", "CONNECTORS", "SECURITY", "SCALING", "EMBEDDING", "POSTGRESQL", "WHY_THIS")))
-MOST_WORDS = 14_000
+MOST_WORDS = 15_600
 
 
 def short_enough():

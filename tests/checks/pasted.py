@@ -48,7 +48,7 @@ def shell_of(blocks):
 
 def readme():
     """The node of README.md, what is typed to it, and the listing for Python behind it."""
-    lines = shown("README.md", "set in", r"hkrep (node --log|feed|ask|status) ")
+    lines = shown("README.md", "set in", r"export PATH=|hkrep (node --log|feed|ask|status) ")
     (listing,) = shown("README.md", "python")
     wanted = [f"{it.printed}\n" if it.printed else None for it in lines] + ["".join(f"{text}\n" for text in re.findall(r"# prints (.*)", listing.text))]
     return shell_of([it.text for it in lines]) + python_of([listing.text]) + "kill $(jobs -p)\n", wanted
@@ -92,12 +92,13 @@ def with_ports(script):
 
 
 def reader(folder, program):
-    """A folder as a reader of the pages has it, with the program under both of its names."""
+    """A folder as a reader of the pages has it, with the program under both of its names and the link to the one without proofs."""
     for entry in ROOT.iterdir():
         if entry.name not in ("bin", ".git"):
             (folder / entry.name).symlink_to(entry)
     (folder / "bin").mkdir()
-    for name in ("hkrep", "hkrep-unproved"):
+    (folder / "bin" / "quick").mkdir()
+    for name in ("hkrep", "hkrep-unproved", "quick/hkrep"):
         (folder / "bin" / name).symlink_to(program)
 
 
@@ -128,12 +129,15 @@ def problems_of(page, program):
     """What is wrong with a page, pasted once."""
     typed, least = PASTED[page]
     script, wanted = typed()
+    script += "hash -r; command -v hkrep > /dev/null || echo 'hkrep is gone' >&2\n"
     with tempfile.TemporaryDirectory(prefix="pasted-") as name:
         folder = pathlib.Path(name)
         reader(folder, program)
         printed, told = run_in(folder, with_ports(script))
     pieces = re.split(ENDS, without_nodes(printed))
     problems = differ([(page, got, said) for got, said in zip(pieces, wanted) if said is not None])
+    if "hkrep is gone" in told:
+        problems.append(f"{page}: behind it the shell doesn't find hkrep any more")
     if not len(pieces) == len(wanted) + 1 >= least + 1:
         problems.append(f"{page}: {len(wanted)} pieces, {len(pieces) - 1} ended: {told[-300:]}")
     return [f"{problem}; {told[-300:]}" for problem in problems]

@@ -7,6 +7,7 @@ as many as are asked for) are kill -9 of the capture, PostgreSQL, Redis or the n
 draws; after each, a snapshot's moment is compared. Needs bin/hkrep, postgresql, python3-psycopg2, redis-server and
 python3-redis; where one isn't installed, that is said as skipped. It ends only what it started."""
 import contextlib
+import errno
 import importlib.util
 import os
 import pathlib
@@ -42,20 +43,27 @@ from servers import HKREP, kill, waited
 from shown import of
 
 if psycopg2 is not None and redis is not None:
+    import altered_tables
     import capturing
     import catalog
     import configuration
+    import keeping
     import log
+    import log_in_file
+    import lost_tails
     import reference
     import shapes
     import source
     import spilling
+    import vadungsil
     import vadungsil.postgres as va
     from captured_shop import (LIMIT, LOG, TABLES, Kills, Shop, holds, places_of)
     from configuration import Broken
     from keys import Keys
+    from log_in_file import LogInFile
 
 KILLS, SEED = 20, 69
+STORY = os.environ.get("STORY", "")      # what is in the name of a story, where only some are to be played
 
 
 # ---------------------------------------------------------------- without a server
@@ -157,17 +165,53 @@ def bad_files():
 
 def texts_of_one_hash():
     """Two texts of one hash are told; a hash that gives one number for all stands for a search of such texts."""
-    names = shapes.digest_of
+    names = shapes.key_and_check
     table = configuration.Table(3, "public.files", "name", None, None, "a.toml, line 1")
-    shapes.digest_of = lambda text: bytes(8) + names(text)[:8]
+    shapes.key_and_check = lambda text: (0, names(text)[0])
     try:
         shape = shapes.Shape(table, 1, ["name"], [shapes.Type("text", "b")])
         one, other = shape.written(["one"]), shape.written(["other"])
         problems = [collision(shape, *them) for them in ((one, other), (other, one), (one, one))]
     finally:
-        shapes.digest_of = names
+        shapes.key_and_check = names
     wanted = 'public.files: name "{}" has the hash 0, which another name has too; such a table can\'t be captured'
     return differ([("two texts of one hash", problems, [wanted.format("other"), wanted.format("one"), ""])])
+
+
+def full_disks():
+    """A disk that is full is waited for, and nothing of a part of a block is left."""
+    frame, write, truncated = vadungsil.encode(vadungsil.Entry.of(LOG, 1, 1, 5, rows=[(1, 1, 0, b"x" * 99)])), os.write, []
+    with tempfile.TemporaryDirectory() as folder:
+        path = pathlib.Path(folder) / "a.log"
+        store, tries = LogInFile(str(path), LOG), []
+
+        def full(file, data):
+            """Takes a part, then nothing, and all once it was tried three times; and each line of checksums."""
+            if os.fstat(file).st_ino != path.stat().st_ino:
+                return write(file, data)
+            tries.append(len(data))
+            if len(tries) in (2, 3, 4):
+                truncated.append(path.stat().st_size)
+                raise OSError(errno.ENOSPC, "No space left on device")
+            return write(file, data[:10] if len(tries) == 1 else data)
+        kept = keeping.KeptByEngine(store, 60)
+        kept.publisher.patience.say = lambda text: said.append(text)
+        said = []
+        log_in_file.os.write = full
+        try:
+            kept.put(frame)
+            kept.flush()
+        finally:
+            log_in_file.os.write = write
+        return differ([("the file", path.read_bytes(), frame), ("tries", len(tries), 5), ("what stood before each", truncated, [10, 0, 0]),
+                       ("what is said", [it for it in said if "No space" in it], ["OSError: [Errno 28] No space left on device; trying again"])])
+
+
+def told_stops():
+    """docs/POSTGRESQL.md has each story that stops a capture, and no other."""
+    page = (ROOT / "docs" / "POSTGRESQL.md").read_text()
+    rows = [line for line in page.split("| What is done |")[1].split("\n\n")[0].splitlines() if line.startswith("| ") and "---" not in line]
+    return differ([("the rows of the page", rows, [it.row() for it in altered_tables.STORIES if "stops" in it.row()])])
 
 
 def collision(shape, first, second):
@@ -379,6 +423,27 @@ def another_table(shop):
     shop.captured(wanted=4, said="begin a log with a new id")
 
 
+def altered(shop):
+    """Each story of altered_tables.py, beside the capture and behind it."""
+    shop.sql("create role other_owner superuser")
+    shop.sql("drop publication shop")
+    wanted = [it for it in altered_tables.STORIES if not STORY or STORY in it.name]
+    with ThreadPoolExecutor(6) as pool:
+        played = [(it.name, way, pool.submit(altered_tables.told_of, shop, shop.folder, it, f"{way}{at}", way))
+                  for at, it in enumerate(wanted) for way in it.ways()]
+        problems = [f"{name}, {way}: {told}" for name, way, it in played for told in it.result()]
+    if os.environ.get("TOLD"):
+        pathlib.Path(os.environ["TOLD"]).write_text("\n".join(problems))
+    holds(not problems, "; ".join(problems[:3]))
+    return f"{len(wanted)} stories, each in two ways at least"
+
+
+def tails(shop, story=None, count=20_000, rounds=3):
+    """A tail that only looks lost is told by nobody, and one that is lost is."""
+    at, ahead = lost_tails.played(shop, story, count, rounds)
+    return f"{story.name}, {at} rounds of {count} rows, in {ahead} of them psycopg2 confirmed by itself"
+
+
 def cut_in_half(shop, count):
     """Kills a capture between two entries of an UPDATE of so many rows: what stands then, up to its last whole entry,
     and the places of its entries."""
@@ -415,7 +480,7 @@ def halves(shop):
         shop.same(node)
     shop.captured(wanted=3, said="lost its tail")
     shop.sql("select pg_drop_replication_slot('vadungsil_7'); select pg_copy_logical_replication_slot('saved', "
-             "'vadungsil_7')")
+             "'vadungsil_7'); select pg_replication_origin_drop('vadungsil_7')")
     shop.captured()
     shop.same()
     whole = shop.file.read_bytes()
@@ -423,6 +488,12 @@ def halves(shop):
     times = [it[2] for it in places_of(whole)]
     holds(times == sorted(set(times)), "times don't rise")
     return f"killed behind {len(part)} entries of a transaction"
+
+
+def cut_off(shop, data):
+    """Has a log be these bytes, and without checksums, as where both were lost."""
+    shop.file.write_bytes(data)
+    shop.file.with_name(f"{shop.file.name}.sums").unlink(missing_ok=True)
 
 
 def losses(shop):
@@ -434,13 +505,15 @@ def losses(shop):
     shop.captured()
     whole = shop.file.read_bytes()
     shop.file.write_bytes(whole[:before])
-    shop.captured(wanted=3, said="lost its tail")
-    shop.file.write_bytes(b"")
+    shop.captured(wanted=3, said="it lost its tail: it is corrupt")
+    cut_off(shop, whole[:before])
+    shop.captured(wanted=3, said="lost its tail, and those transactions can't be had again")
+    cut_off(shop, b"")
     shop.captured(wanted=3, said="slot vadungsil_7 is there")
-    shop.file.write_bytes(whole + b"a line\n")
+    cut_off(shop, whole + b"a line\n")
     shop.captured(wanted=3, said=f"byte {len(whole)} of {shop.file} is no block of this stream: 7 bytes are no")
     holds(shop.file.read_bytes() == whole + b"a line\n", "the line was taken away")
-    shop.file.write_bytes(whole)
+    cut_off(shop, whole)
     said = shop.configuration.read_text()
     for other in (said.replace('tag = "size"\n', ""), said[:said.rindex("[[table]]")]):
         shop.configuration.write_text(other)
@@ -462,7 +535,7 @@ def loads_cut_off(shop):
         with shop.node(part) as node:
             holds(node.front().readable == 0 and sum(it.prefix for it in node.streams()) > 1,
                   "a part of a load can be read")
-        shop.file.write_bytes(whole[:(load[0][1], load[1][1] + 100, load[-2][1])[turn]])
+        cut_off(shop, whole[:(load[0][1], load[1][1] + 100, load[-2][1])[turn]])
         shop.sql("delete from accounts where id %% 11 = %s; update notes set about = about || 'x', body = body || "
                  "body where id::text < '8'", turn)
         shop.sql("insert into files values (%s, 1, repeat('w', 5000))", f"at turn {turn}")
@@ -602,8 +675,8 @@ def play(check, words=()):
     return f"{check.__name__.replace('_', ' ')} ({time.monotonic() - begin:.1f} s)", problems, told
 
 
-ALONE = (keys_of_a_table, spilled_transactions, times_and_tags, bad_files, texts_of_one_hash)
-SERVED = (kills, halves, losses, another_table, demonstrated, all_changes, values_and_moments, refused_tables,
+ALONE = (keys_of_a_table, spilled_transactions, times_and_tags, bad_files, texts_of_one_hash, full_disks, told_stops)
+SERVED = (kills, altered, tails, halves, losses, another_table, demonstrated, all_changes, values_and_moments, refused_tables,
           changes_that_stop,
           loads_cut_off, idle_places, over_nats, page)
 
@@ -613,6 +686,15 @@ def lacking():
     if psycopg2 is None:
         return "python3-psycopg2 and python3-redis"
     return "postgresql" if servers.postgres_folder() is None else "" if shutil.which("redis-server") else "redis-server"
+
+
+def checks_of(chosen, numbers):
+    """The checks that were chosen, with their words: numbers are those of the kills, or how many rows and rounds the tails have."""
+    for it in SERVED:
+        if it.__name__ in chosen and it is tails:
+            yield from ((it, (story, *numbers)) for story in lost_tails.STORIES if STORY in story.name)
+        elif it.__name__ in chosen:
+            yield it, numbers if it is kills else ()
 
 
 def main(words):
@@ -631,7 +713,7 @@ def main(words):
         skip("no nats-server from 2.10.27 on is here: a capture into NATS", needed=False)
         chosen.remove("over_nats")
     with ThreadPoolExecutor(3) as pool:
-        played = [pool.submit(play, it, numbers if it is kills else ()) for it in SERVED if it.__name__ in chosen]
+        played = [pool.submit(play, it, words) for it, words in checks_of(chosen, numbers)]
         for it in played:
             report(*it.result())
     return ended()

@@ -22,6 +22,7 @@ import zipfile
 sys.dont_write_bytecode = True
 ROOT = pathlib.Path(__file__).resolve().parents[2]
 import python_addresses
+import python_caught
 import python_members
 import python_names
 import python_servers
@@ -223,17 +224,18 @@ def pushed(replies, ends, request=va.encode_request(va.AskFront())):
 
 
 def program_replies():
-    """Those of version 2 are replied to requests of version 2; a frame of that version is read by its own rules."""
+    """Those of version 2 are replied to requests of version 2, their faults too; a frame of that version is read by its own rules."""
     known = vectors("replies")
     told = pushed([bytes.fromhex(it["bytes"]) for it in known], len(known))
     later = vectors("later_replies")
-    told += pushed([bytes.fromhex(it["bytes"]) for it in later], len(later), va.later.encode_request(va.later.AskStreams()))
+    asked, asked_later = va.encode_request(va.AskFront()), va.later.encode_request(va.later.AskStreams())
+    told += pushed([bytes.fromhex(it["bytes"]) for it in later], len(later), asked_later)
     known += later
     problems = differ([("replies", told, [line for it in known for line in it["lines"]])])
-    faults = [it for it in vectors("reply_faults") if not is_of_version_2(it)] + vectors("later_reply_faults")
-    faults = [it for number, it in enumerate(faults) if it["number"] != 1 or number % 8 == 0]
-    found = POOL.map(lambda it: pushed([bytes.fromhex(it["bytes"])], 1), faults)
-    problems += differ([(it["name"], got, [f"refused {it['number']}"]) for it, got in zip(faults, found)])
+    faults = [(it, asked) for it in vectors("reply_faults") if not is_of_version_2(it)] + [(it, asked_later) for it in vectors("later_reply_faults")]
+    faults = [it for number, it in enumerate(faults) if it[0]["number"] != 1 or number % 8 == 0]
+    found = POOL.map(lambda it: pushed([bytes.fromhex(it[0]["bytes"])], 1, it[1]), faults)
+    problems += differ([(it["name"], got, [f"refused {it['number']}"]) for (it, _), got in zip(faults, found)])
     report(f"replies and their faults against `hkrep push` ({len(known)} and {len(faults)})", problems)
 
 
@@ -679,7 +681,7 @@ def syntax():
 
 
 CHECKS = (values, reasons, client_items, client_messages, client_faults, stored, syntax, program_items, program_replies, a_node, pipelines,
-          limits_and_links, waited_for, *python_addresses.CHECKS, *python_servers.CHECKS, *python_stats.CHECKS, *python_waiting.CHECKS, asynchronous, many_nodes, *python_members.CHECKS, log_writer, writer_refusals, resumed, *python_names.CHECKS, commands, exports, export_places, wheel)
+          limits_and_links, waited_for, *python_addresses.CHECKS, *python_servers.CHECKS, *python_stats.CHECKS, *python_waiting.CHECKS, asynchronous, many_nodes, *python_members.CHECKS, log_writer, writer_refusals, resumed, *python_names.CHECKS, *python_caught.CHECKS, commands, exports, export_places, wheel)
 
 
 def main(words):

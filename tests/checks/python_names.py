@@ -10,6 +10,7 @@ sys.path.append(str(pathlib.Path(__file__).resolve().parents[1] / "lib"))
 from checks import differ, report
 from client import Node as Served
 from packaged import refusal_of, va
+from vadungsil.postgres import key_of
 
 LAST = va.LAST_TIME
 
@@ -147,8 +148,11 @@ def asked_by_the_clock():
 
 # ---------------------------------------------------------------- names
 
-# as `printf '%s' ada | b2sum -l 64` prints them
-HASHES = {"ada": 0x15b0da4321160527, "": 0xe4a6a0577479b2b4, "Zoë": 0x789fb70695ef899a, "a" * 4096: 0x0a90a52911393519}
+# the first 16 digits that `printf '%s' ada | b2sum -l 128` prints
+HASHES = {"ada": 0xc6ef43c47f8c2362, "": 0xcae66941d9efbd40, "Zoë": 0x0e8501d04522bf3b, "a" * 4096: 0x74520bf2be15c6f2}
+
+# the keys of before, as `b2sum -l 64` prints them
+BEFORE = {"ada": 0x15b0da4321160527, "Zoë": 0x789fb70695ef899a}
 
 
 class ByLength(va.Names):
@@ -178,7 +182,7 @@ def names_read_back():
         node.items([it.entry, *writer.marks()])
         problems += differ([("in a transaction", [row for row in it.entry.rows if row.table == 3], sorted([put("Zoë"), put("a" * 4096)]))])
         problems += differ([(f"{text[:9]!r} by {name}", names.text(of, key), text) for text, key in HASHES.items() for name, of in (("a node", node), ("nodes", nodes), ("a moment", node.at(2)))])
-        problems += differ([("a row of the log by its name", [names.text(node, key) for key, _ in node.range(1)], ["ada", "Zoë"]), ("no name", names.text(node, 5), None),
+        problems += differ([("a row of the log by its name", [names.text(node, key) for key, _ in node.range(1)], ["Zoë", "ada"]), ("no name", names.text(node, 5), None),
                             ("not yet then", names.text(node, HASHES["Zoë"], at=1), None), ("then", names.text(node.at(1), HASHES["ada"], at=1), "ada"),
                             ("not at this moment", "time 1" in str(raised(ValueError, lambda: names.text(node.at(1), 5, at=2))), True),
                             ("too new", refusal_of(lambda: names.text(node, 5, at=3)), 26), ("a key", refusal_of(lambda: names.text(node, -1)), 6)])
@@ -206,6 +210,19 @@ def names_loaded():
                             ("of another table", va.Names(4).load(node), 0), ("not at this moment", raised(ValueError, lambda: again.load(node.at(2), at=1)) is None, False)])
         problems += differ([("the one that lacks", again.puts(["", "Zoë", "a" * 4096, "ada"], writer), [put("a" * 4096)])])
     report("names of a log are loaded from a node", problems)
+
+
+def names_of_before():
+    """Names that stand under the keys of before are read, and a captured text has the key of a name."""
+    problems, names, writer = differ([(f"the key of {text}", va.Names.key_before(text), key) for text, key in BEFORE.items()]), va.Names(3), va.LogWriter(7, 1)
+    with Served(2, words=("--messages", "2")) as served, va.Node(served.port) as node:
+        node.items([writer.commit([put(text, key) for text, key in BEFORE.items()]), *writer.marks()])
+        problems += differ([("read", [names.text(node, key) for key in BEFORE.values()], list(BEFORE)), ("loaded", names.load(node), 2),
+                            ("under the key of now it isn't there", names.text(node, HASHES["ada"]), None), ("so it is put", names.puts(["ada"], writer), [put("ada")])])
+        node.items([writer.commit(names.puts(["ada"], writer)), *writer.marks()])
+        problems += differ([("both are read", [names.text(node, key) for key in (BEFORE["ada"], HASHES["ada"])], ["ada", "ada"]), ("and loaded", va.Names(3).load(node), 3)])
+    problems += differ([("a captured text", key_of("ada"), HASHES["ada"])])
+    report("names of before are read, and a captured text has the key of a name", problems)
 
 
 def names_that_collide():
@@ -245,4 +262,4 @@ def rows_that_are_no_names():
     report("rows that are no names, and texts that none can be, are told", problems)
 
 
-CHECKS = (clock_times, clocks_refused, beats, asked_by_the_clock, names_read_back, names_loaded, names_that_collide, rows_that_are_no_names)
+CHECKS = (clock_times, clocks_refused, beats, asked_by_the_clock, names_read_back, names_loaded, names_of_before, names_that_collide, rows_that_are_no_names)

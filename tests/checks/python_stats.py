@@ -15,8 +15,8 @@ from staying import Staying
 later = va.later
 MOST = 2**64 - 1
 METRICS = [(1, 0, 3), (2, 0, 1), (3, 0, 12), (4, 0, 9), (5, 0, 1), (6, 0, 0), (7, 0, 2), (8, 0, 61), (9, 0, 1000), (9, 1, 500), (10, 0, 10), (10, 1, 0), (11, 0, 4096),
-           (12, 0, 2), (12, 1, 1), (13, 0, 7), (14, 0, 3), (15, 0, MOST), (16, 0, 5), (17, 17, 4), (17, 60, 1), (18, 26, 8), (19, 0, 0), (20, 0, 1_002_003), (21, 0, 2), (22, 0, 5),
-           (22, 3, 6), (65535, 65535, MOST)]
+           (12, 0, 2), (12, 1, 1), (13, 0, 7), (14, 0, 3), (15, 0, MOST), (16, 0, 5), (17, 17, 4), (17, 60, 1), (18, 26, 8), (19, 0, 0), (20, 0, 1_002_003), (21, 0, 2), (22, 0, 8192), (23, 0, 5),
+           (23, 3, 6), (65535, 65535, MOST)]
 TABLES = [0, 1, 5, 65535]
 
 
@@ -39,7 +39,8 @@ def numbers():
     nothing = later.decode_reply(stats_frame([]))
     wanted = {"rows": 3, "ends": 1, "body_bytes": 12, "operations": 9, "guarded": True, "failed": False, "pins": 2, "seconds": 61, "budget": {0: 1000, 1: 500}, "reserved": {0: 10, 1: 0},
               "memory": 4096, "open": {0: 2, 1: 1}, "opened": {0: 7}, "most_open": {0: 3}, "bytes_read": MOST, "bytes_written": 5, "requests": {17: 4, 60: 1}, "refusals": {26: 8},
-              "failed_accepts": 0, "version": "1.2.3", "keys": 2, "other": {22: {0: 5, 3: 6}, 65535: {65535: MOST}}}
+              "failed_accepts": 0, "version": "1.2.3", "keys": 2,
+              "memory_limit": 8192, "other": {23: {0: 5, 3: 6}, 65535: {65535: MOST}}}
     found = [name for name, it in vars(later.Stats).items() if isinstance(it, property)]
     problems = differ([("all of them", sorted(found), sorted(wanted)), *((name, getattr(stats, name), value) for name, value in wanted.items()),
                        *((f"{name} of nothing", getattr(nothing, name), {} if isinstance(value, dict) else None) for name, value in wanted.items())])

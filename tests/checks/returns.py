@@ -22,9 +22,10 @@ from staying import PROGRAM, OwnNode, said
 
 # the rows of each time: what a log of so many entries of two rows each puts, by the definition
 ENTRIES, BODY = 40, 2_000
+NO_PLAIN_FILE = "it is a device, a pipe or a folder, which no file takes the place of; "
 PLACES = 20
 FOLDER = pathlib.Path(tempfile.mkdtemp(prefix="returns"))
-FROM = re.compile(r"\d{4}-\d\d-\d\dT\d\d:\d\d:\d\d\.\d{3}Z (info|warn) - (load|from) (\S+): (.*)\n")
+FROM = re.compile(r"\d{4}-\d\d-\d\dT\d\d:\d\d:\d\d\.\d{3}Z (info|warn|error) - (load|from) (\S+): (.*)\n")
 
 
 def body_of(number):
@@ -109,22 +110,22 @@ def bad_files():
     whole = (FOLDER / "node.save").read_bytes()
     facts = [(1, 5, 1, (9, b"A"), None)]
     head = {"streams": ((1, 1, (), ()),), "count": 1}
-    cases = {"cut": (whole[:-1], "refused 1: "), "cut in its head": (whole[:3], "refused 1: "), "empty": (b"", "refused 1: "),
+    cases = {"cut": (whole[:-41], "refused 1: "), "cut in its checksum": (whole[:-1], "frame 2: refused 6: "), "cut in its head": (whole[:3], "refused 1: "), "empty": (b"", "refused 1: "),
              "of another log": (say.merge_this(log=8), "refused 20: "), "requests": (entries(1, 2), "refused 4: "), "item frames": (say.E1, "refused 4: "),
-             "text": (b"a file of lines\n", "refused 2: "), "two snapshots": (whole + whole, "refused 4: "), "more behind it": (whole + b"\0", "refused 1: "),
+             "text": (b"a file of lines\n", "refused 2: "), "two snapshots": (whole + whole, "refused 4: "), "half a checksum": (whole[:-20], f"frame 2: refused 6: at byte {len(whole) - 40} the input ends inside"), "more behind it": (whole + b"\0", "refused 1: "),
              "chunks without a head": (say.add(facts), "refused 1: "), "a chunk that is cut": (say.add(facts) + say.merge_parts(**head)[:-2], "refused 1: "),
              "a head of more than came": (say.add(facts) + say.merge_parts(**{**head, "count": 2}), "refused ")}
     pairs = []
     for name, (data, start) in cases.items():
         file = FOLDER / "bad.save"
         file.write_bytes(data)
-        with OwnNode("--load", file) as node:
+        with OwnNode("--load", file, "--load-or-empty") as node:
             lines = told(node, 1)
-            pairs += [(f"{name}: what it has", what_it_has(node), (("front", 0, 0), [])), (f"{name}: lines", [it[:3] for it in lines], [("warn", "load", str(file))])]
+            pairs += [(f"{name}: what it has", what_it_has(node), (("front", 0, 0), [])), (f"{name}: lines", [it[:3] for it in lines], [("error", "load", str(file))])]
             pairs += [(f"{name}: why", it[3][:len(start)], start) for it in lines]
     for name, file in (("no such file", FOLDER / "none"), ("a folder", FOLDER)):
         port = free_port()
-        status, out, errors = run("node", "--log", 7, "--streams", 1, "--port", port, "--load", file, "--from", f"127.0.0.1:{free_port()}", "--need-data")
+        status, out, errors = run("node", "--log", 7, "--streams", 1, "--port", port, "--load", file, "--load-or-empty", "--from", f"127.0.0.1:{free_port()}", "--need-data")
         lines = list(said(errors.splitlines()))
         pairs += [(f"{name}: its status", (status, out, len(lines)), (1, b"", 3)), (f"{name}: the last line", lines[-1][:27], "stopped: there is no data, ")]
     report("a file that isn't whole is told, and nothing of it is taken", differ(pairs))
@@ -173,9 +174,9 @@ def killed_saves():
         pairs += [("the first save", run("save", "--port", node.port, "--out", file), (0, b"", ""))]
         old = file.read_bytes()
         fed(node, 11, ENTRIES)
-        new = run("save", "--port", node.port)[1]
+        new, reply = run("save", "--port", node.port)[1], len(run("save", "--port", node.port, "--plain")[1])
         for at in range(PLACES // 2):
-            between = Between(node, (len(new) - 1) * at // (PLACES // 2 - 1))
+            between = Between(node, (reply - 1) * at // (PLACES // 2 - 1))
             child = subprocess.Popen([str(PROGRAM), "save", "--port", str(between.port), "--out", str(file)])
             pairs.append((f"kill {at} while it comes: there", between.reached.wait(30), True))
             child.kill()
@@ -191,7 +192,7 @@ def killed_saves():
         pairs += [("a write that fails", (status, out, len(errors.splitlines())), (1, b"", 1)), ("the file after it", (file.read_bytes() == old, beside(file)), (True, [file.name]))]
         pairs += [("a node that isn't there", run("save", "--port", free_port(), "--connect-seconds", 0, "--out", file)[:2], (1, b"")),
                   ("the file after that", (file.read_bytes() == old, beside(file)), (True, [file.name]))]
-        pairs += [("the next save", run("save", "--port", node.port, "--out", file), (0, b"", "")), ("the file", (file.read_bytes() == new, beside(file)), (True, [file.name]))]
+        pairs += [("the next save", run("save", "--port", node.port, "--out", file), (0, b"", "")), ("the file, and what was before", (file.read_bytes() == new, (FOLDER / "killed.save.1").read_bytes() == old, beside(file)), (True, True, [file.name, "killed.save.1"]))]
     with OwnNode("--load", file) as node:
         pairs.append(("a node that begins with it", what_it_has(node), (("front", 0, ENTRIES), [])))
     report(f"a save that is killed at {PLACES} places, or fails", differ(pairs))
@@ -226,13 +227,13 @@ def saves_side_by_side():
         fed(node, 1, ENTRIES)
         whole = run("save", "--port", node.port)[1]
         children = [subprocess.Popen([str(PROGRAM), "save", "--port", str(node.port), "--out", str(file)]) for _ in range(8)]
-        pairs = [("the statuses", [it.wait(60) for it in children], [0] * 8), ("the file", (file.read_bytes() == whole, beside(file)), (True, [file.name]))]
+        pairs = [("the statuses", [it.wait(60) for it in children], [0] * 8), ("the file, and what was before", (file.read_bytes() == whole, (FOLDER / "both.save.1").read_bytes() == whole, beside(file)), (True, True, [file.name, "both.save.1"]))]
         file.write_bytes(b"old")
         link.symlink_to(file)
         pairs += [("through a link", run("save", "--port", node.port, "--out", link), (0, b"", "")), ("the link and the file", (link.is_symlink(), file.read_bytes() == whole), (True, True))]
-        for name, target in (("a device", "/dev/null"), ("a folder", FOLDER), ("no folder", FOLDER / "none" / "file")):
+        for name, target, why in (("a device", "/dev/null", NO_PLAIN_FILE), ("a folder", FOLDER, NO_PLAIN_FILE), ("no folder", FOLDER / "none" / "file", "")):
             status, out, errors = run("save", "--port", node.port, "--out", target)
-            pairs.append((name, (status, out, errors.startswith(f"stopped: can't make the file {target}: "), len(errors.splitlines())), (1, b"", True, 1)))
+            pairs.append((name, (status, out, errors.startswith(f"stopped: can't make the file {target}: {why}"), len(errors.splitlines())), (1, b"", True, 1)))
     report("saves side by side, through a link, and to what is no plain file", differ(pairs))
 
 

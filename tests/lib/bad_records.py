@@ -4,6 +4,7 @@ them, and each engine's check (tests/checks/connectors.py, tests/checks/engine.p
 tests/lib/bad_records_run.py. The log is 7, of one stream, whose entries 1 to 8 `publish` is given. Needs the package `vadungsil`."""
 from __future__ import annotations
 
+import hashlib
 import pathlib
 import sys
 from dataclasses import dataclass
@@ -55,6 +56,7 @@ class Put:
     says: Optional[bytes] = None  # NATS: the header, where it is no number
     stream: int = STREAM
     bad: int = 0  # a file: at which of these bytes the item begins that is none
+    sum: Optional[bytes] = None  # Redis, NATS: the checksum that is said of it
 
 
 @dataclass(frozen=True)
@@ -142,6 +144,14 @@ def no_block(name: str, put: Put, reason: str, engines: Tuple[str, ...] = ALL) -
     return Case(name, (FIRST, put), said, engines)
 
 
+def corrupt(name: str, put: Put) -> Case:
+    """Behind entries 1 and 2 stands a block whose checksum is another: each names it, and no node gets it."""
+    own, said = hashlib.sha256(put.data).hexdigest(), (put.sum or b"").hex()
+    words = f"stream 1: {{at}}: its checksum is {own}, where it says {said}: it is corrupt"
+    engines = (REDIS, NATS)
+    return Case(name, (FIRST, put), (*both(3, words, (1, 2), engines), Said("status", 3, words, engines=engines)), engines)
+
+
 def cut_in(frame: bytes, at: int, byte: bytes) -> bytes:
     """A frame with another byte in one place."""
     return frame[:at] + byte + frame[at + 1 :]
@@ -178,6 +188,12 @@ NO_BLOCKS = (
     no_block("a header that is no number", Put(OURS[3], says=b"x"), "its header Hk-Last is no number", (NATS,)),
     no_block("a header below 0", Put(OURS[3], says=b"-3"), "its header Hk-Last is no number", (NATS,)),
     no_block("a header of 30 digits", Put(OURS[3], says=b"9" * 30), "its header Hk-Last is no number", (NATS,)),
+)
+
+CORRUPT = (
+    corrupt("a checksum of zeros", Put(OURS[3], 3, sum=bytes(32))),
+    corrupt("that of another block", Put(OURS[3], 3, sum=hashlib.sha256(OURS[4]).digest())),
+    corrupt("half a checksum", Put(OURS[3], 3, sum=bytes(16))),
 )
 
 # ---------------------------------------------------------------- what lacks
@@ -309,8 +325,7 @@ INPUTS = (
     Case("an input that repeats", (), (Said("publish", 0, "2 frames added in 1 blocks, 1 were there", kept=2),), given=some(1, 2, 1)),
 )
 
-CASES: Tuple[Case, ...] = NO_BLOCKS + HOLES + FORKS + REPEATS + OTHERWISE + INPUTS
-
+CASES: Tuple[Case, ...] = NO_BLOCKS + CORRUPT + HOLES + FORKS + REPEATS + OTHERWISE + INPUTS
 
 # the example for Kafka takes a second for each, so it has one of each kind
 WITH_KAFKA = ("another log", "half a frame", "another number", "a hole", "a hole above all that is published", "another entry", "a repeat",

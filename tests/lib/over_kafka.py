@@ -50,8 +50,8 @@ def main(side, brokers, topic, *more):
     else:
         add_follow_words(words, "Kafka")
     said = words.parse_args(more)
-    store = kafka.LogInKafka(brokers, said.log, said.streams)
-    return publish(store, said, words) if side == "publish" else follow(store, said)
+    opened = lambda: kafka.LogInKafka(brokers, said.log, said.streams)
+    return publish(opened(), said, words) if side == "publish" else follow(opened, said)
 
 
 if __name__ == "__main__":

@@ -15,8 +15,10 @@ def main():
     words = argparse.ArgumentParser(prog="publish")
     add_words(words)
     add_publish_words(words, LogInFile)
+    words.add_argument("--trust", action="store_true")
     said = words.parse_args()
     store = opened(said, words)
+    store.trust = said.trust
     try:
         return publish(store, said, words)
     finally:

@@ -1,6 +1,7 @@
 """Goes through the bad cases of tests/lib/bad_records.py with an engine: an `Engine` puts what a case has there, and publish, follow and status
 run as programs, one after the other in one Python (tests/lib/in_one_python.py). Needs bin/hkrep, and the package `vadungsil`."""
 import json
+import pathlib
 import re
 import select
 import subprocess
@@ -193,10 +194,28 @@ def tried(engine):
 
 # ---------------------------------------------------------------- a file
 
+class Unsaid:
+    """The programs, without the line that a file has no checksums."""
+
+    def __init__(self, programs):
+        self.programs = programs
+
+    def __getattr__(self, name):
+        return getattr(self.programs, name)
+
+    def ran(self, *words):
+        code, out, lines = self.programs.ran(*words)
+        return code, out, [line for line in lines if "corrupt bytes may not show" not in line]
+
+
 class File(Engine):
-    """A file for each case; `publish` is the publisher of connectors over `LogInFile`."""
+    """A file for each case; `publish` is the publisher of connectors over `LogInFile`. What is put into it by hand is that of a file
+    without checksums: with them it would be no more than what isn't kept yet (tests/checks/file_log.py)."""
 
     name = bad.FILE
+
+    def __init__(self, folder, programs):
+        super().__init__(folder, Unsaid(programs))
 
     def path(self):
         return self.folder / f"case{self.count}.log"
@@ -211,6 +230,7 @@ class File(Engine):
     engine = key
 
     def put(self, step):
+        pathlib.Path(f"{self.path()}.sums").unlink(missing_ok=True)
         with open(self.path(), "ab") as file:
             at = file.tell()
             file.write(step.data)

@@ -5,7 +5,7 @@ from vadungsil import AsyncNode, Get, LogWriter, Mark, Node, Row, later
 def misused(node: Node, log: LogWriter, other: AsyncNode) -> int:
     print(node.get(1, 5).body)      # refused: it may be None
     node.get("1", 5)      # refused: a table is a number
-    node.items(log.marks()[0])      # refused: one item is no list of items
+    node.items(5)      # refused: a number is no item
     print(node.items(log.marks()).new + 1)      # refused: it may be None
     log.commit(puts=[(1, 5, 9)])      # refused: a row without a body
     print(node.front().last)      # refused: no such field

@@ -2,7 +2,18 @@
 from . import later
 from .aio import AsyncChanges, AsyncMoment, AsyncNode
 from .changes import Change, Changes
-from .errors import Fault, LinkBroken, NotANode, NotResumable, Refused, TimeLimit, TooOld, VadungsilError
+from .errors import (
+    Fault,
+    LinkBroken,
+    NotANode,
+    NothingToResume,
+    NotResumable,
+    NotYet,
+    Refused,
+    TimeLimit,
+    TooOld,
+    VadungsilError,
+)
 from .items import Feeder, Head, decode, encode, head_of
 from .members import Member
 from .messages import ReplyFeeder, RequestFeeder, decode_reply, decode_request, encode_reply, encode_request
@@ -92,6 +103,8 @@ __all__ = [
     "NotAName",
     "NotANode",
     "NotResumable",
+    "NotYet",
+    "NothingToResume",
     "Number",
     "One",
     "Operations",

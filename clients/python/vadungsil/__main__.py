@@ -3,6 +3,7 @@ from __future__ import annotations
 
 import argparse
 import os
+import ssl
 import sys
 from typing import Any, BinaryIO, Callable, List, Optional
 
@@ -11,7 +12,7 @@ from .address import ELSE, FORMS, Address, place_of
 from .bodies import WAYS, table_of
 from .errors import LinkBroken, Refused, TimeLimit, VadungsilError
 from .export import FORMS as FILES
-from .export import Progress, export, is_standard_output
+from .export import Progress, export, form_named, is_standard_output
 from .items import Feeder
 from .link import add_certificates, certificates_of
 from .messages import MOST_ITEMS, MOST_MESSAGE
@@ -126,7 +127,7 @@ def add_feed(of: argparse.ArgumentParser) -> None:
 
 def add_export(of: argparse.ArgumentParser) -> None:
     of.add_argument("--at", type=number("time"), metavar="T", help="the time; without it the resolved time")
-    of.add_argument("--form", choices=FILES, help="sqlite unless the file's ending says csv or jsonl")
+    of.add_argument("--form", choices=FILES, help="the form, where the file's ending doesn't say it")
     of.add_argument(
         "--out",
         default="-",
@@ -163,14 +164,7 @@ def asked(node: Any, words: argparse.Namespace) -> str:
         return shown_as(words, found, lambda: Rows(tuple(found)).line())
     if words.command == "count":
         return Number(node.count(words.table, at=words.at)).line()
-    ending = (
-        words.out.rsplit(".", 1)[-1]
-        if words.out.endswith((".csv", ".jsonl"))
-        else "jsonl"
-        if words.out == "-"
-        else "sqlite"
-    )
-    rows = export(node, words.out, words.form or ending, words.at, words.tables, words.force)
+    rows = export(node, words.out, words.form or form_named(words.out), words.at, words.tables, words.force)
     return "" if is_standard_output(words.out) else f"rows {rows}"
 
 
@@ -264,9 +258,7 @@ def main(arguments: Optional[List[str]] = None) -> int:
         return 1
     except LinkBroken as broken:
         print("refused 93")
-        print(
-            f"refused 93: {broken}; 'hkrep node' starts a node, and --node or HKREP_NODE names another", file=sys.stderr
-        )
+        print(f"refused 93: {broken}; {what_to_do(broken)}", file=sys.stderr)
         return 1
     except OSError as error:
         return _failed(error)
@@ -274,6 +266,13 @@ def main(arguments: Optional[List[str]] = None) -> int:
         print(f"vadungsil: {error}", file=sys.stderr)
         return 2
     return 0
+
+
+def what_to_do(broken: LinkBroken) -> str:
+    """Where no connection holds: over TLS that is no matter of starting a node."""
+    if isinstance(broken.__cause__, ssl.SSLError):
+        return "see --cacert, --cert and --key, and which certificates stand before the node"
+    return "'hkrep node' starts a node, and --node or HKREP_NODE names another"
 
 
 def _failed(error: OSError) -> int:

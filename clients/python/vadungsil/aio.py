@@ -25,7 +25,19 @@ from .link import (
 )
 from .messages import MOST_MESSAGE, encode_request
 from .node import _ends_link
-from .requests import Moment, Read, Requests, ask_frame, feeding, logs_of, other_log, read_done, value_of, version_seen
+from .requests import (
+    Moment,
+    Read,
+    Requests,
+    ask_frame,
+    feeding,
+    latest_in,
+    logs_of,
+    other_log,
+    read_done,
+    value_of,
+    version_seen,
+)
 from .stats import Stats
 from .transfer import least_of
 from .later_values import (
@@ -184,7 +196,7 @@ class AsyncNode(
         return refused
 
     async def _read(self, at: Optional[int], query: Query, read: Read) -> Any:
-        time = (await self.front()).readable if at is None else at
+        time = latest_in(await self.front(), self.name) if at is None else at
         return await self._call(ask_frame(time, query), read)
 
     async def _exchange(self, request: bytes) -> bytes:
@@ -398,7 +410,7 @@ class AsyncMoment(Moment[Awaitable[Optional[Row]], Awaitable[List[KeyRow]], Awai
 
     async def __aenter__(self) -> "AsyncMoment":
         if self._wanted is None:
-            self.time = (await self.node.front()).readable
+            self.time = latest_in(await self.node.front(), self.node.name)
         return self
 
     async def __aexit__(self, *_: object) -> None:

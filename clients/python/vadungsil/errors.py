@@ -106,6 +106,15 @@ class TooOld(Refused):
     the changes since that."""
 
 
+class NotYet(Refused):
+    """26: a time can't be read yet; the node can be read up to `error.readable`. Where that is 0, nothing can be read:
+    no marks came, as of a new node, or where a stream has none. `wait` waits for a time."""
+
+    @property
+    def meaning(self) -> str:
+        return super().meaning if self.readable else "nothing is readable yet: no marks came"
+
+
 class LinkBroken(VadungsilError):
     """A connection could not be opened, or ended where a reply was awaited; whether the request was made isn't
     known."""
@@ -120,7 +129,12 @@ class NotResumable(VadungsilError):
     """A full snapshot from which a log can't be continued, and why."""
 
 
+class NothingToResume(NotResumable):
+    """A full snapshot without an entry, as of a node that nobody has fed yet: a writer behind that would begin a second
+    history under the same log. `LogWriter.resume(.., empty=True)` where the log does begin there."""
+
+
 def refusal(number: int, *values: int, place: str = "") -> Refused:
-    """A `Fault` for 1 to 10, a `TooOld` for 25, else a `Refused`."""
-    kind = Fault if number <= 10 else TooOld if number == 25 else Refused
+    """A `Fault` for 1 to 10, a `TooOld` for 25, a `NotYet` for 26, else a `Refused`."""
+    kind = Fault if number <= 10 else {25: TooOld, 26: NotYet}.get(number, Refused)
     return kind(number, *values, place=place)

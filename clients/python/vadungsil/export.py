@@ -132,6 +132,22 @@ class _Json(_Text):
 
 
 FORMS = ("sqlite", "csv", "jsonl")
+# the endings of files, and their forms
+ENDINGS = {".csv": "csv", ".jsonl": "jsonl", ".db": "sqlite", ".sqlite": "sqlite", ".sqlite3": "sqlite", "": "sqlite"}
+
+
+def form_named(path: str) -> str:
+    """The form that a path's ending names; `-`, standard output, gets JSON lines. `ValueError`: no form has that
+    ending, as .parquet."""
+    if path == "-":
+        return "jsonl"
+    ending = os.path.splitext(path)[1]
+    if ending not in ENDINGS:
+        raise ValueError(
+            f"{path}: no form has the ending {ending}; {', '.join(it for it in ENDINGS if it)} are known, and --form"
+            " csv, jsonl or sqlite writes any"
+        )
+    return ENDINGS[ending]
 
 
 def is_standard_output(path: str) -> bool:

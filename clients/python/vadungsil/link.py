@@ -216,7 +216,7 @@ class Link:
         except (OSError, ValueError) as error:
             why = self._refused_by_tls() or error
             self.close()
-            raise LinkBroken(f"{self.name}: {why}") from error
+            raise LinkBroken(f"{self.name}: {why}") from why
         except BaseException:
             self.close()
             raise

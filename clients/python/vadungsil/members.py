@@ -141,9 +141,9 @@ class MemberLink(OwnLink):
         except Refused as fault:
             raise _no_reply(self._node, fault) from fault
 
-    def _exchanged(self, request: Request) -> bytes:
+    def _exchanged(self, frame: bytes) -> bytes:
         try:
-            return super()._exchanged(request)
+            return super()._exchanged(frame)
         except Refused as fault:
             raise _no_reply(self._node, fault) from fault
 

@@ -48,6 +48,7 @@ from .values import (
     Count,
     Delta,
     Done,
+    Entry,
     Fact,
     Fragment,
     FragmentHead,
@@ -58,6 +59,7 @@ from .values import (
     Items,
     JoinThis,
     KeyRow,
+    Mark,
     MergeThis,
     Number,
     One,
@@ -187,10 +189,17 @@ def items_frame(frames: Iterable[Union[Item, Bytes, None]], version: int = 2) ->
     return framed(16, items_bytes(frames, version))
 
 
-def items_bytes(frames: Iterable[Union[Item, Bytes, None]], version: int = 2) -> bytes:
-    """The body of Items and of Feed: their count, and the frame of each."""
+def _each(frames: Union[Iterable[Union[Item, Bytes, None]], Item, Bytes, None]) -> Iterable[Union[Item, Bytes, None]]:
+    """The same; of one item, it alone."""
+    if frames is None or isinstance(frames, (Entry, Mark, bytes, bytearray, memoryview)):
+        return [frames]
+    return frames
+
+
+def items_bytes(frames: Union[Iterable[Union[Item, Bytes, None]], Item, Bytes, None], version: int = 2) -> bytes:
+    """The body of Items and of Feed: their count, and the frame of each; of one item, where it is one."""
     texts: List[bytes] = []
-    for frame in frames:
+    for frame in _each(frames):
         if frame is not None:
             texts.append(bytes(frame) if isinstance(frame, (bytes, bytearray, memoryview)) else encode(frame, version))
     if len(texts) > MOST_ITEMS:

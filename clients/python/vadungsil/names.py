@@ -1,9 +1,11 @@
 """Names for keys: texts whose hashes are keys of a log, and a table of the log itself in which they can be looked up.
 
-It is an agreement of those who write and those who read; nodes know nothing of it. The key of a text is the BLAKE2b
-digest of 8 bytes of its UTF-8, without a key or a salt, its first byte the most significant: what `b2sum -l 64` prints.
-It is not the beginning of a longer digest. At that key of the table of names is a row with the tag 0 and the UTF-8 as
-its body. Nothing of it is proved."""
+It is an agreement of those who write and those who read; nodes know nothing of it. The key of a text is the beginning
+of the BLAKE2b digest of 16 bytes of its UTF-8, without a key or a salt: its first 8 bytes, the first of them the most
+significant, which are the first 16 digits that `b2sum -l 128` prints. It is the key of a text in a captured table too
+(docs/POSTGRESQL.md). At that key of the table of names is a row with the tag 0 and the UTF-8 as its body. Names that
+were written under the digest of 8 bytes, the key of a text before (`Names.key_before`), are read as well. Nothing of it
+is proved."""
 from __future__ import annotations
 
 import hashlib
@@ -16,6 +18,21 @@ from .writer import LogWriter, Transaction
 
 # a node, several as one, an embedded replica; or one moment of any
 Asked = Union[Reads[Optional[Row], List[KeyRow], int], Moment[Optional[Row], List[KeyRow], int]]
+
+
+def digest_of(text: str) -> bytes:
+    """16 bytes of a text's hash: 8 for the key, 8 that distinguish two texts of one key."""
+    return hashlib.blake2b(text.encode(), digest_size=16).digest()
+
+
+def key_and_check(text: str) -> Tuple[int, int]:
+    """The key of a text, of names and of captured rows, and the second number."""
+    digest = digest_of(text)
+    return int.from_bytes(digest[:8], "big"), int.from_bytes(digest[8:], "big")
+
+
+def key_of_text(text: str) -> int:
+    return key_and_check(text)[0]
 
 
 class NameCollision(VadungsilError):
@@ -62,7 +79,13 @@ class Names:
         body = text.encode()
         if len(body) > MOST_BODY:
             raise Fault(9, place=f"a name of {len(body)} bytes")
-        return int.from_bytes(hashlib.blake2b(body, digest_size=8).digest(), "big")
+        return key_of_text(text)
+
+    @staticmethod
+    def key_before(text: str) -> int:
+        """The key that a text had before names and captured rows shared theirs: under it are rows of an older log.
+        `puts` writes names under `key` alone."""
+        return int.from_bytes(hashlib.blake2b(text.encode(), digest_size=8).digest(), "big")
 
     # ------------------------------------------------------------ writing
 
@@ -138,7 +161,7 @@ class Names:
             text = row.body.decode()
         except UnicodeDecodeError:
             raise NotAName(self.table, key, "the body of the row is no UTF-8") from None
-        if self.key(text) != key:
+        if key not in (self.key(text), self.key_before(text)):
             raise NotAName(self.table, key, f"the row is {text!r}, whose key is {self.key(text)}")
         return text
 

@@ -16,6 +16,7 @@ from .requests import (
     Requests,
     ask_frame,
     feeding,
+    latest_in,
     logs_of,
     other_log,
     range_of,
@@ -23,6 +24,7 @@ from .requests import (
     read_front,
     version_seen,
 )
+from .saved import Loaded, Saved, load
 from .stats import Stats
 from .transfer import AnyPart, Hold, least_of, parts_from, parts_to
 from .later_values import (
@@ -143,7 +145,11 @@ class Node(
         return read(rest)
 
     def _read(self, at: Optional[int], query: Query, read: Read) -> Any:
-        return self._call(ask_frame(self.front().readable if at is None else at, query), read)
+        return self._call(ask_frame(self._latest() if at is None else at, query), read)
+
+    def _latest(self) -> int:
+        """The resolved time."""
+        return latest_in(self.front(), self.name)
 
     def _feed(self, body: bytes) -> Any:
         version = self._version or 1
@@ -180,7 +186,7 @@ class Node(
         """Each row of the keys from low to high at one time, asked for page by page (`page`), so there is no limit on
         their number. `ValueError`: low is above high."""
         range_of(table, low, high)
-        time = self.front().readable if at is None else at
+        time = self._latest() if at is None else at
         while True:
             page = self.page(table, low, high, at=time, most=most)
             yield from page.rows
@@ -246,9 +252,16 @@ class Node(
         except Refused as refused:
             raise self._with_logs(refused, logs)
 
+    def load(self, saved: Saved) -> Loaded:
+        """Takes what `hkrep save` wrote: a file's name, or an open file of bytes. It goes over a connection of its own,
+        a chunk at a time; a fragment is joined once its checksum was read and is right, and nothing of it where it is
+        wrong (`Fault` 6). A file without checksums, as of --plain or of an earlier release, is taken too, with a
+        warning."""
+        return load(self._own_link, saved)
+
     def at(self, time: Optional[int] = None) -> "NodeMoment":
         """One moment: all questions at this time, or at the current resolved time."""
-        return NodeMoment(self, self.front().readable if time is None else time_of(time))
+        return NodeMoment(self, self._latest() if time is None else time_of(time))
 
     def pipeline(self) -> "Pipeline":
         """Requests that are sent together: `with node.pipeline() as pipe:`, and `pipe.get(..).result()` behind the
@@ -392,7 +405,7 @@ class Pipeline(
     def _read(self, at: Optional[int], query: Query, read: Read) -> Any:
         if at is None:
             if self.time is None:
-                self.time = self.node.front().readable
+                self.time = self.node._latest()
             at = self.time
         return self._call(ask_frame(at, query), read)
 

@@ -4,12 +4,13 @@ Nodes that took the items of one log up to a time give equal answers at it, so q
 different nodes."""
 from __future__ import annotations
 
+import threading
 import time as clock
 from typing import Any, Callable, Dict, Iterable, List, Optional, Set, Tuple
 
 from .address import Address, place_of
 from .changes import Changes, Found, Watch
-from .errors import LinkBroken, Refused, TooOld, VadungsilError
+from .errors import LinkBroken, NotYet, Refused, TooOld, VadungsilError
 from .link import Certificates
 from .members import SECOND, BadMember, Member, MemberLink, Members, Round, Tracked, exchanged
 from .node import Node
@@ -21,6 +22,9 @@ ELSEWHERE = frozenset({3, 4, 25, 26, 41, 90})
 
 # It will refuse each question at this time so.
 UNABLE = frozenset({25, 26, 41, 90})
+
+# how many seconds pass before members are asked again for a time that was given
+AGAIN = 0.02
 
 Told = List[Tuple[str, Exception]]
 
@@ -89,6 +93,7 @@ class Nodes(Reads[Optional[Row], List[KeyRow], int]):
         if agree > 1 and len({it.address for it in self.nodes}) < len(self.nodes):
             raise ValueError("an address is named twice, where several have to agree")
         self.agree, self._limit = agree, limit
+        self._given, self._giving = 0, threading.Lock()  # the greatest time that was given as the latest
         self._members = Members(self.nodes, agree, log, streams)
 
     def members(self) -> List[Member]:
@@ -98,7 +103,30 @@ class Nodes(Reads[Optional[Row], List[KeyRow], int]):
             return [it.seen() for it in self._members.all]
 
     def latest(self) -> int:
-        """The greatest resolved time that at least `agree` members report. `NoNode` where fewer do."""
+        """The greatest resolved time that at least `agree` members report. It never goes back: where the member that
+        had the last one is gone, it is waited for another that has it, for `limit` seconds, and then `NotYet` is
+        raised. `NoNode` where fewer report one."""
+        end = None if self._limit is None else clock.monotonic() + self._limit
+        while True:
+            found = self._reported()
+            with self._giving:
+                if found >= self._given:
+                    self._given = found
+                    return found
+                given = self._given
+            if end is not None and clock.monotonic() >= end:
+                raise NotYet(26, found, place=f"no {self.agree} members have time {given}, which was given before")
+            clock.sleep(AGAIN)
+
+    def _latest(self) -> int:
+        """The time of a question without one. `NotYet` where nothing can be read yet."""
+        time = self.latest()
+        if time == 0:
+            raise NotYet(26, 0, place="no member")
+        return time
+
+    def _reported(self) -> int:
+        """The greatest resolved time that so many members report now."""
         times, told = [], []  # type: List[int], Told
         way = Round(self._members, self._members.all, set())
         while True:
@@ -116,7 +144,7 @@ class Nodes(Reads[Optional[Row], List[KeyRow], int]):
 
     def at(self, time: Optional[int] = None) -> "NodesMoment":
         """One moment: this time, or the latest."""
-        return NodesMoment(self, self.latest() if time is None else time_of(time))
+        return NodesMoment(self, self._latest() if time is None else time_of(time))
 
     def changes(self, since: int) -> Changes:
         """As `Node.changes`, from whichever member can give them, and on from another where that one is away, lags, or
@@ -126,7 +154,17 @@ class Nodes(Reads[Optional[Row], List[KeyRow], int]):
         return NodesChanges(self, Watch(since, self._limit))
 
     def _read(self, at: Optional[int], query: Query, read: Read) -> Any:
-        return self._ask(self.latest() if at is None else at, query, read, set())
+        if at is not None:
+            return self._ask(at, query, read, set())
+        end = None if self._limit is None else clock.monotonic() + self._limit
+        while True:
+            time = self._latest()
+            try:
+                return self._ask(time, query, read, set())
+            except NotYet:  # the member that had the time is gone
+                if end is not None and clock.monotonic() >= end:
+                    raise
+            clock.sleep(AGAIN)
 
     def _ask(self, time: int, query: Query, read: Read, unable: Set[Node]) -> Any:
         """The answer that `agree` nodes give; `unable` gets the nodes that can't read the time."""
@@ -164,7 +202,7 @@ class Nodes(Reads[Optional[Row], List[KeyRow], int]):
         if it.front is None or it.front.readable < time:
             readable = self._members.front(it, is_short).readable
             if readable < time:
-                raise Refused(26, readable, place=it.node.name)
+                raise NotYet(26, readable, place=it.node.name)
         return self._members.ask(it, ask, is_short)
 
     def _is_agreed(self, answers: List[Tuple[Tracked, Any]], answer: Any) -> bool:

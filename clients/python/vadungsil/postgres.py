@@ -14,6 +14,8 @@ import uuid
 from typing import Any, Dict, Iterable, Iterator, List, NamedTuple, Optional, Tuple, Union
 
 from .errors import TimeLimit, VadungsilError
+from .names import digest_of as digest_of, key_and_check as key_and_check  # which others take from here
+from .names import key_of_text
 from .node import Node
 from .values import LAST_KEY, KeyRow, Row
 
@@ -49,15 +51,10 @@ def moment(at: int) -> int:
 
 def key_of(value: Key) -> int:
     """The key of a row: a whole number as it is, from 2^63 on where it is below 0 (2^64 is added); of a text or a UUID
-    64 bits of its hash (BLAKE2b), so that who asks compares the column too, as `Database.get` does."""
+    64 bits of its hash, as of a name, so that who asks compares the column too, as `Database.get` does."""
     if isinstance(value, int):
         return value % 2**64
-    return int.from_bytes(digest_of(str(value))[:8], "big")
-
-
-def digest_of(text: str) -> bytes:
-    """16 bytes of a text's hash: 8 for the key, 8 that distinguish two texts of one key."""
-    return hashlib.blake2b(text.encode(), digest_size=16).digest()
+    return key_of_text(str(value))
 
 
 def tag_of(value: Union[Key, bool, None]) -> int:
@@ -106,7 +103,8 @@ def long_of(body: bytes) -> Optional[Long]:
 def decode(body: bytes, parts: Iterable[KeyRow] = ()) -> Columns:
     """The columns of a row by name. `parts` are the rows of the table of parts where the body says that it is long
     (`long_of`), of the same moment. Whole numbers and floats are numbers, true and false are, NULL is None; all else is
-    the text that PostgreSQL prints, a numeric, a date and JSON too, and a float that is no number (NaN, Infinity)."""
+    the text that PostgreSQL prints, a numeric, a date and JSON too, and a float that JSON doesn't carry (NaN, Infinity,
+    -0)."""
     long = long_of(body)
     if long is not None:
         rows = list(parts)

@@ -32,7 +32,7 @@ REASONS: Dict[int, Reason] = {
     4: _of(
         "BadKind",
         "the kind byte has no meaning there",
-        "fix the sender: items have kind 1 or 2, requests 16 to 23 or 48 to 59, replies 32 to 36 or 64 to 74",
+        "fix the sender: items have kind 1 or 2, requests 16 to 23 or 48 to 61, replies 32 to 36 or 64 to 76",
     ),
     5: _of("BadStream", "a stream number or count outside 1 to 64", "fix the sender: a log has 1 to 64 streams"),
     6: _of(
@@ -84,7 +84,7 @@ REASONS: Dict[int, Reason] = {
     26: _of(
         "NotYet",
         "a time above the resolved time",
-        "feed the marks of all streams, or ask at the resolved time",
+        "ask at the resolved time, or wait for the time (--wait, node.wait); who feeds: send the marks of all streams",
         "readable",
     ),
     30: _of("WriteConflict", "a later commit wrote the key", "begin the transaction again", "table", "key", "at"),

@@ -4,18 +4,11 @@ from __future__ import annotations
 
 from typing import Any, Callable, Dict, Generic, Iterable, Iterator, List, Optional, Tuple, TypeVar, Union, overload
 
-from .errors import Fault, Refused
+from .errors import Fault, NotYet, Refused
 from .messages import encode_request, framed, items_bytes, query_bytes, reply_of
 from .reading import Bytes
 from .stats import Stats, Tables
-from .later_values import (
-    AskLatest,
-    AskPage,
-    Fed,
-    Latest,
-    Page,
-    Streams,
-)
+from .later_values import AskLatest, AskPage, Fed, Latest, Page, Streams
 from .values import (
     LAST_KEY,
     Answer,
@@ -108,6 +101,13 @@ def read_number(rest: bytes) -> int:
 def read_front(rest: bytes) -> Front:
     front: Front = value_of(rest, Front)
     return front
+
+
+def latest_in(front: Front, name: str) -> int:
+    """The resolved time. `NotYet` (26) where nothing can be read yet: a node without marks answers at time 0 alone."""
+    if front.readable == 0:
+        raise NotYet(26, 0, place=name)
+    return front.readable
 
 
 def read_fragment(rest: bytes) -> Fragment:
@@ -241,7 +241,8 @@ class Moment(Generic[RowT, RowsT, NumberT]):
 class Reads(Generic[RowT, RowsT, NumberT]):
     """Questions, each at a time of its own; without one, at the resolved time, for which the front is asked first.
 
-    Raised: 25 below the oldest readable time (`error.horizon`), 26 above the resolved time (`error.readable`)."""
+    Raised: `NotYet` without a time where nothing can be read yet; 25 below the oldest readable time (`error.horizon`),
+    26 above the resolved time (`error.readable`)."""
 
     def _read(self, at: Optional[int], query: Query, read: Read) -> Any:
         raise NotImplementedError
@@ -299,12 +300,12 @@ class Requests(
         """The range of readable times."""
         return self._call(FRONT, read_front)
 
-    def items(self, items: Iterable[Union[Item, Bytes, None]]) -> OperationsT:
-        """Takes items, or the bytes of their frames, all or none; at most 65,536, and None is passed over. Sent twice
-        is as once: `new` of the number has how many the node did not know before, where it is known to read messages of
-        version 2, and else None. 20 and 21: not of this log; 23: they conflict with one another, or with what the node
-        holds, which fails it (41 from then on), but for one with a guard: that refuses also what touches the past, and
-        a repeat that differs, and nothing is changed."""
+    def items(self, items: Union[Iterable[Union[Item, Bytes, None]], Item, Bytes, None]) -> OperationsT:
+        """Takes items, or the bytes of their frames, all or none; at most 65,536, and None is passed over. One item may
+        be given as it is, without a list. Sent twice is as once: `new` of the number has how many the node did not know
+        before, where it is known to read messages of version 2, and else None. 20 and 21: not of this log; 23: they
+        conflict with one another, or with what the node holds, which fails it (41 from then on), but for one with a
+        guard: that refuses also what touches the past, and a repeat that differs, and nothing is changed."""
         return self._feed(items_bytes(items))
 
     def delta(self, base: int) -> FragmentT:

@@ -29,6 +29,7 @@ NAMES: Dict[int, str] = {
     19: "failed_accepts",
     20: "program",
     21: "keys",
+    22: "memory_limit",
 }
 # Those that have a label: which budget, door, kind of requests or refusal.
 LABELLED = frozenset((9, 10, 12, 13, 14, 17, 18))
@@ -192,6 +193,11 @@ class Stats:
     def keys(self) -> Optional[int]:
         """How many keys of tables the node holds a version of."""
         return self._one(21)
+
+    @property
+    def memory_limit(self) -> Optional[int]:
+        """The bytes of address space that the process may take; None where it has no limit."""
+        return self._one(22)
 
     @property
     def other(self) -> Dict[int, Dict[int, int]]:

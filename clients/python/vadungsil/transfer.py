@@ -51,16 +51,20 @@ class OwnLink:
     def ask(self, request: Request, *kinds: type, within: Optional[float] = None) -> Any:
         """The reply, of one of these kinds, which is waited for `within` so many seconds, where that is less than the
         connection's own limit. After any error the connection is closed."""
+        return self.ask_frame(encode_request(request), *kinds, within=within)
+
+    def ask_frame(self, frame: bytes, *kinds: type, within: Optional[float] = None) -> Any:
+        """The same of a request that is a frame already."""
         try:
             self._link.set_limit(least_of(self._limit, within))
-            return self._read(self._exchanged(request), kinds)
+            return self._read(self._exchanged(frame), kinds)
         except BaseException:
             self.close()
             raise
 
-    def _exchanged(self, request: Request) -> bytes:
+    def _exchanged(self, frame: bytes) -> bytes:
         found: List[bytes] = []
-        self._link.exchange(encode_request(request), 1, found)
+        self._link.exchange(frame, 1, found)
         return found[0]
 
     def _read(self, rest: bytes, kinds: Tuple[type, ...]) -> Any:

@@ -8,7 +8,7 @@ from __future__ import annotations
 from time import time_ns
 from typing import Any, Callable, Dict, Iterable, List, MutableMapping, Optional, Sequence, Tuple, Union
 
-from .errors import Fault, NotResumable, Refused
+from .errors import Fault, NothingToResume, NotResumable, Refused
 from .values import (
     LAST_TIME,
     MOST_STREAMS,
@@ -205,14 +205,30 @@ class LogWriter:
         return writer
 
     @classmethod
-    def resume(cls, whole: Fragment, *, clock: Clock = False) -> "LogWriter":
+    def resume(
+        cls,
+        whole: Fragment,
+        *,
+        clock: Clock = False,
+        empty: bool = False,
+        at_least: Union[None, int, Sequence[int]] = None,
+    ) -> "LogWriter":
         """A writer that goes on where a node's whole ends. The node must have taken **everything** that was written:
         what it lacks at the end of a stream can't be seen here, and would be written a second time, with other rows (23
         at every node that has the first). `NotResumable` where something is seen to be missing: a part of the log, a
         gap, a mark that waits, an end without its row. `clock` as above.
+
+        `NothingToResume`: it has no entry, as of a new node, and `empty` isn't given, which says that the log begins
+        there. `at_least` is what is known to have been written, as the writer or its owner noted it: how many entries
+        of each stream, or a time that was committed; where the snapshot has less, that is `NotResumable` too.
         """
         if whole.base != 0:
             raise NotResumable(f"a delta since {whole.base} is no full snapshot")
+        if not empty and not any(stream.prefix or stream.extra for stream in whole.streams):
+            raise NothingToResume(
+                f"log {whole.log} has no entry there; resume from a node that has all of it, or where it begins there"
+                " say so by empty=True"
+            )
         writer = cls(whole.log, len(whole.streams))
         writer._clock = clock_of(clock)
         for number, stream in enumerate(whole.streams, 1):
@@ -228,7 +244,23 @@ class LogWriter:
         writer.time = max(writer.time, whole.horizon)
         for fact in whole.facts:
             writer._learn(fact.version, fact.row, fact.died)
+        if at_least is not None:
+            writer._see_least(at_least)
         return writer
+
+    def _see_least(self, least: Union[int, Sequence[int]]) -> None:
+        """`NotResumable` where less was written than is known; `ValueError`: that isn't a number for each stream."""
+        if isinstance(least, int):
+            if self.time < number_in(least, 0, LAST_TIME, "time"):
+                raise NotResumable(f"it ends with time {self.time}, and time {least} was committed: it lacks the rest")
+            return
+        if len(least) != self.streams:
+            raise ValueError(f"at_least has {len(least)} numbers, for {self.streams} streams")
+        for stream, (own, number) in enumerate(zip(self._numbers, least), 1):
+            if own < number_in(number, 0, LAST_TIME, "entries of a stream"):
+                raise NotResumable(
+                    f"stream {stream} ends with entry {own} there, and {number} were written: it lacks the rest"
+                )
 
     def _learn(self, version: VersionKey, row: Optional[Row], died: Optional[int]) -> None:
         place = (version.table, version.key)

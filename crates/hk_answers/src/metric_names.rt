@@ -62,3 +62,6 @@ pub const PROGRAM: u16 = 20;
 
 /// The keys of tables that the node holds a version of.
 pub const KEYS: u16 = 21;
+
+/// The bytes of address space that the process may take, where that has a limit.
+pub const MEMORY_LIMIT: u16 = 22;

@@ -1,13 +1,14 @@
 -- A page that is filled row by row is the first page of all rows.
-use Rattle.std.proofs.Common.{◌≡◌, sym, ap, subst, ◌∙◌, ℕ, ◌+◌, ◌<◌, Bool, true, false, nat_lt, List, [], ◌∷◌, ◌++◌, length, take, append_assoc, length-append, arith}
+use Rattle.std.proofs.Common.{◌≡◌, sym, ap, subst, ◌∙◌, ℕ, ◌+◌, ◌<◌, Bool, true, false, nat_lt, List, [], ◌∷◌, ◌++◌, length, take, append_assoc, length-append, arith, Option, None, Some, Result, Ok, Err}
 use Rattle.std.proofs.lemmas.Bool.Decides.{nat_tests}
 use Rattle.std.proofs.lemmas.List.{append-nil}
 use Rattle.std.proofs.Math.Seq.{take-append_seam, take-length}
 use Rattle.hk_types.specs.Values.{RowValue}
+use Rattle.hk_model.specs.declared.page.Page.{Page}
 use Rattle.hk_model.specs.Replica.Pages.{page_len, page_of}
 use Rattle.hk_model.specs.History.Rows.{RowKey}
 use Rattle.hk_facts.specs.Chains.{ChainValue, row_at}
-use Rattle.hk_chains.specs.Paging.{Takes, IsFull, final_len}
+use Rattle.hk_chains.specs.Paging.{Takes, IsFull, IsPageWithin, final_len}
 use Rattle.hk_chains.specs.Reads.{keyed_if, rows_at}
 use Rattle.hk_chains.specs.declared.page.PageBuilder.{PageBuilder}
 
@@ -74,3 +75,9 @@ module _ (t most room : ℕ) (all : List (ℕ × RowValue)) (old new : PageBuild
       let some : 0 < length (rows ++ rows_at t rest) = let l = length-append rows (rows_at t rest) in let m = full.1 in omega (arith, l, m) in
       full_page most room all new.rows.items (rows ++ rows_at t rest) placed some
       (ap length full.0 ∙ sym count ∙ ap (final_len (length old.rows.items) most old.room) (sym split) ∙ fills.2)
+
+-- the same of other rows whose first page is the same
+pub same_page_within : {E : Type 0} (looks : Option ℕ) (most room : ℕ) (rows others : List (ℕ × RowValue)) (r : Result (Option Page) E) → page_of most room rows ≡ page_of most room others → IsPageWithin looks most room rows r → IsPageWithin looks most room others r
+same_page_within looks most room rows others (Ok None) same is = is
+same_page_within looks most room rows others (Ok (Some page)) same is = is ∙ same
+same_page_within looks most room rows others (Err e) same is = tt

@@ -1,5 +1,5 @@
 -- How a page is filled, row by row.
-use Rattle.std.specs.Prelude.{◌≡◌, ℕ, zero, suc, ◌+◌, ◌-◌, ◌<◌, ◌++◌, ◌==◌, ◌&&◌, ◌||◌, min, nat_lt, nat_le, Bool, List, length, Result, IfOk}
+use Rattle.std.specs.Prelude.{◌≡◌, ◌≢◌, ℕ, zero, suc, ◌+◌, ◌-◌, ◌<◌, ◌++◌, ◌==◌, ◌&&◌, ◌||◌, min, nat_lt, nat_le, Bool, true, false, List, length, Option, None, Some, MatchOption, Result, IfOk}
 use Rattle.hk_types.specs.Values.{RowValue}
 use Rattle.hk_model.specs.declared.page.Page.{Page}
 use Rattle.hk_model.specs.Replica.Pages.{page_len, page_of, page_seen, rows_within}
@@ -30,6 +30,12 @@ IsFull old new rows =
     (new.rows.items ≡ old.rows.items) × (0 < length rows)
     × ((more : List (ℕ × RowValue)) → final_len (length old.rows.items) old.most old.room (rows ++ more) ≡ length old.rows.items)
 
--- what came is the first page of these rows, unless memory ran out
-abbrev pub IsPageOf : {E : Type 0} → ℕ → ℕ → List (ℕ × RowValue) → Result Page E → Type 0
-IsPageOf most room rows result = IfOk result (λ page. page_seen page ≡ page_of most room rows)
+-- what came is the first page of these rows; a call whose looks are counted may give up, and memory may run out
+abbrev pub IsPageWithin : {E : Type 0} → Option ℕ → ℕ → ℕ → List (ℕ × RowValue) → Result (Option Page) E → Type 0
+IsPageWithin looks most room rows result = IfOk result (λ found. MatchOption found (looks ≢ None) (λ page. page_seen page ≡ page_of most room rows))
+
+-- one of the looks that are left was taken, or there is none; where they aren't counted they stay so
+abbrev pub Spends : Option ℕ → Option ℕ → Bool → Type 0
+Spends None new has = (new ≡ None) × (has ≡ true)
+Spends (Some left) new true = (fewer : ℕ) × (new ≡ Some fewer) × (left ≡ suc fewer)
+Spends (Some left) new false = (new ≡ Some left) × (left ≡ 0)

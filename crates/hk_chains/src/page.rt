@@ -7,7 +7,7 @@ ghost use Rattle.std.specs.FinMap as finmap;
 ghost use Rattle.hk_model.specs.History.Rows.{row_key_cmp};
 ghost use Rattle.hk_facts.specs.Chains.{row_at};
 ghost use Rattle.hk_slots.specs.SlotMaps.{map_of};
-ghost use Rattle.hk_chains.specs.Paging.{Takes, IsFull, IsPageOf};
+ghost use Rattle.hk_chains.specs.Paging.{Takes, IsFull, IsPageWithin, Spends};
 ghost use Rattle.hk_chains.specs.Paging as paging;
 ghost use Rattle.hk_chains.specs.Reads.{keyed_if, rows_from_to, rows_ranged};
 
@@ -81,7 +81,24 @@ fn put_row_at(
     }
 }
 
-/// Fills a page with the rows that the chains from a first to a last row have at a time.
+/// Takes one look of those that are left, where they are counted. Answers whether there was one.
+fn spend(looks: &mut Option<u64>) -> bool
+    ensures { Spends looks.old looks.new result }
+{
+    match looks {
+        None => true,
+        Some(left) => match left.checked_sub(1) {
+            Some(fewer) => {
+                *left = fewer;
+                true
+            }
+            None => false,
+        },
+    }
+}
+
+/// Fills a page with the rows that the chains from a first to a last row have at a time, or gives up where it would look at more
+/// chains than so many.
 fn page_in_range(
     chains: &SlotMap<RowKey, Chain>,
     first: RowKey,
@@ -90,9 +107,10 @@ fn page_in_range(
     alloc: Global,
     most: u32,
     room: u64,
-) -> Result<Page, AllocError>
+    looks: Option<u64>,
+) -> Result<Option<Page>, AllocError>
     requires { is_gt (row_key_cmp first last) ≡ false }
-    ensures { IsPageOf most room
+    ensures { IsPageWithin looks most room
         (rows_from_to time first last (finmap.entries (map_of row_key_cmp chains.now))) result }
 {
     let mut page = PageBuilder {
@@ -100,26 +118,31 @@ fn page_in_range(
         most,
         room,
     };
+    let mut left = looks;
     for (row, chain) in chains.range(first..=last) {
+        if !spend(&mut left) {
+            return Ok(None);
+        }
         if !put_row_at(alloc, &mut page, row.key, chain, time)? {
-            return Ok(Page {
+            return Ok(Some(Page {
                 rows: page.rows,
                 more: true,
-            });
+            }));
         }
     }
-    Ok(Page {
+    Ok(Some(Page {
         rows: page.rows,
         more: false,
-    })
+    }))
 }
 
 impl Chains {
     /// The first page of the rows of a table with keys from `low` to `high`, both inside, that show at a time, by
     /// rising key: copies of at most `most` of them, of at most `room` bytes with 14 for each row beside its body, but
-    /// of the first one whatever its size; and whether more follow. Where `low` is above `high` there are none. The only
-    /// error is out of memory. Cost: O(log n + k · log n + b), n facts, k keys of which anything is known from low up to
-    /// the first row that is left out, b bytes of the bodies that are copied.
+    /// of the first one whatever its size; and whether more follow. Where `low` is above `high` there are none. Where it would
+    /// look at more keys than `looks`, if that is a number, it gives up: `None`. The only error is out of memory. Cost:
+    /// O(log n + k · log n + b), n facts, k keys of which anything is known from low up to the first row that is left out, and
+    /// at most `looks` of them, b bytes of the bodies that are copied.
     pub fn page(
         &self,
         alloc: Global,
@@ -129,17 +152,18 @@ impl Chains {
         time: Time,
         most: u32,
         room: u64,
-    ) -> Result<Page, AllocError>
-        ensures { IsPageOf most room (rows_ranged self.now time table low high) result }
+        looks: Option<u64>,
+    ) -> Result<Option<Page>, AllocError>
+        ensures { IsPageWithin looks most room (rows_ranged self.now time table low high) result }
     {
         if high < low {
-            return Ok(Page {
+            return Ok(Some(Page {
                 rows: Vec::new(alloc),
                 more: false,
-            });
+            }));
         }
         let first = RowKey::new(table, low);
         let last = RowKey::new(table, high);
-        page_in_range(&self.chains, first, last, time, alloc, most, room)
+        page_in_range(&self.chains, first, last, time, alloc, most, room, looks)
     }
 }

@@ -1,7 +1,11 @@
-//! What stands before a line of a node whose lines have the time.
+//! The form of a node's lines on standard error, and lines beside those of its connections.
 
-use crate::moment::{millis_now, put_moment};
-use std::alloc::{AllocError, Global};
+use hk_cli_calls::Stay;
+use hk_cli_commands::Output;
+use hk_cli_events::{LineForm, LineSink};
+use log::{Level, LevelFilter, Logged, log};
+use std::alloc::Global;
+use std::io::Write;
 use std::net::SocketAddr;
 use std::rt::Clock;
 
@@ -17,30 +21,29 @@ pub(crate) enum Grade {
 }
 
 impl Grade {
-    fn word(self) -> &'static str {
+    fn level(self) -> Level {
         match self {
-            Grade::Info => "info",
-            Grade::Warn => "warn",
-            Grade::Error => "error",
+            Grade::Info => Level::Info,
+            Grade::Warn => Level::Warn,
+            Grade::Error => Level::Error,
         }
     }
 }
 
-/// What stands before the lines of a node: nothing, or the time, how grave it is, and the peer's address.
+/// What logs a node's lines, each by one write to a writer.
+pub(crate) type LineLog<'c, C, W> = Logged<&'c C, LineSink<'c, C, W>>;
+
+/// How the lines of a node stand: their form, and the clock that has their time.
 #[derive(Drop)]
 pub(crate) struct Heads<'c, C: Clock> {
     alloc: Global,
     clock: &'c C,
-    is_dated: bool,
+    form: LineForm,
 }
 
 impl<'c, C: Clock> Heads<'c, C> {
-    pub(crate) fn new(alloc: Global, clock: &'c C, is_dated: bool) -> Heads<'c, C> {
-        Heads {
-            alloc,
-            clock,
-            is_dated,
-        }
+    pub(crate) fn new(alloc: Global, clock: &'c C, form: LineForm) -> Heads<'c, C> {
+        Heads { alloc, clock, form }
     }
 
     /// The clock.
@@ -50,28 +53,62 @@ impl<'c, C: Clock> Heads<'c, C> {
 
     /// Whether lines have the time.
     pub(crate) fn are_dated(&self) -> bool {
-        self.is_dated
+        self.form != LineForm::Words
     }
 
-    /// The head of a line, with a space behind it where it isn't empty.
-    pub(crate) fn head(
-        &self,
-        grade: Grade,
-        peer: Option<SocketAddr>,
-    ) -> Result<String, AllocError> {
-        let mut head = String::new(self.alloc);
-        if self.is_dated {
-            put_moment(millis_now(self.clock), &mut head)?;
-            put_origin(grade.word(), peer, &mut head)?;
-        }
-        Ok(head)
+    /// Whether lines are JSON.
+    pub(crate) fn are_json(&self) -> bool {
+        self.form == LineForm::Json
+    }
+
+    /// What logs lines to a writer.
+    pub(crate) fn log_to<W: Write>(&self, writer: W) -> LineLog<'c, C, W> {
+        let sink = LineSink::new(self.alloc, self.clock, self.form, writer);
+        Logged::new(self.clock, LevelFilter::Info, sink)
+    }
+
+    /// The same to a text in memory, for an output that other lines go to as well.
+    pub(crate) fn log_text(&self) -> LineLog<'c, C, Vec<u8>> {
+        self.log_to(Vec::new(self.alloc))
     }
 }
 
-/// Adds how grave it is, and the peer's address, or a dash where no peer is meant.
-fn put_origin(grade: &str, peer: Option<SocketAddr>, out: &mut String) -> Result<(), AllocError> {
-    match peer {
-        Some(peer) => write!(out, " {grade} {peer} "),
-        None => write!(out, " {grade} - "),
+/// Adds the lines that were logged to a text.
+pub(crate) fn note_text<C: Clock, W: Write, E: Write>(
+    log: LineLog<'_, C, Vec<u8>>,
+    output: &mut Output<'_, W, E>,
+) {
+    let (_clock, sink) = log.into_parts();
+    output.note(str::from_utf8(&sink.into_inner()).unwrap_or(""));
+}
+
+/// Adds the line of what came of something that a node begins with: how it comes to the node, its name, and what came of it in words.
+pub(crate) fn tell_source<C: Clock, W: Write, E: Write>(
+    heads: &Heads<'_, C>,
+    grade: Grade,
+    event: &'static str,
+    name: &str,
+    words: &str,
+    output: &mut Output<'_, W, E>,
+) {
+    let log = heads.log_text();
+    let nobody: Option<SocketAddr> = None;
+    let words = words.trim_end();
+    log!(log; grade.level(), peer = nobody, event, source = name; "{event} {name}: {words}");
+    note_text(log, output);
+}
+
+/// How a node's lines stand: the words alone, as `node` behind the time and more, or as JSON.
+fn form_of(stay: &Stay<'_>) -> LineForm {
+    if stay.in_json {
+        LineForm::Json
+    } else if stay.start.is_some() {
+        LineForm::Dated
+    } else {
+        LineForm::Words
     }
+}
+
+pub(crate) fn heads_of<'c, R: Clock>(rt: &'c R, alloc: Global, stay: &Stay<'_>) -> Heads<'c, R> {
+    Heads::new(alloc, rt, form_of(stay))
 }

@@ -1,13 +1,15 @@
 //! What the program's commands do, over any reader and writers, and the lines that they print.
 #![tactic(auto)]
 
+mod event_words;
+mod failures;
 mod head;
 mod link_reporter;
 mod listening;
 mod memory;
 mod metering;
-mod moment;
 mod notice;
+mod outcome;
 mod serve;
 mod starting;
 mod stay;

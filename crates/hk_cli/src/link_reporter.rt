@@ -1,20 +1,30 @@
 //! What a long-running node reports of its connections.
 
-use crate::head::{Grade, Heads};
+use crate::event_words::{ended_words, known_words, more_words, refused_words, speech_word};
+use crate::failures::Failures;
+use crate::head::{Heads, LineLog};
 use crate::notice::Notice;
 use hk_cli_calls::Level;
 use hk_cli_commands::Output;
+use hk_cli_events::{LineKind, LineLimit};
 use hk_cli_reasons::Place;
-use hk_net::{LinkEvent, Watch};
+use hk_net::{LinkEvent, Speech, Subject, Watch};
 use hk_node::{NodeName, ReaderSeat};
 use hk_session::Ended;
 use hk_types::Time;
-use std::alloc::{AllocError, Global};
+use log::kv::display;
+use log::{error, info, warn};
+use std::alloc::Global;
 use std::collections::HashMap;
 use std::io::Write;
 use std::net::SocketAddr;
 use std::rt::Clock;
-use std::time::Instant;
+
+/// The door of what is of no connection.
+const NO_DOOR: usize = usize::MAX;
+
+/// The peer of a line that is of none.
+const NOBODY: Option<SocketAddr> = None;
 
 /// A seat that reads the node's front, and after how many changes it does.
 #[derive(Drop)]
@@ -49,138 +59,156 @@ impl<J: NodeName> Reports<J> {
     }
 }
 
-/// A connection's number, and the address of its peer, where it has one.
+/// A connection's number, its door, and the address of its peer, where it has one.
 #[derive(Clone, Copy)]
 struct Peer {
     link: u64,
+    door: usize,
     address: Option<SocketAddr>,
 }
 
-/// Accepts that fail one after the other: the first is printed as it comes, further ones are counted.
-#[derive(Clone, Copy)]
-struct Failures {
-    /// When one came last.
-    last: Option<Instant>,
-    /// When one or a number of them was printed last.
-    told: Option<Instant>,
-    /// How many came since.
-    untold: u64,
-}
-
-/// Whether that was a second ago, or never.
-fn is_over<C: Clock>(clock: &C, since: Option<Instant>) -> bool {
-    match since {
-        Some(since) => match since.elapsed(clock) {
-            Ok(gone) => gone.as_secs() > 0,
-            Err(_unknown) => true,
-        },
-        None => true,
-    }
-}
-
-/// Prints what happens to the connections of a node. They are counted from 1 as they open.
+/// Prints what happens to the connections of a node, at most 10 lines of one kind and one door a second, and of the others how many they
+/// were. Connections are counted from 1 as they open.
 #[derive(Drop)]
-pub(crate) struct LinkReporter<'o, 'a, W: Write, E: Write, J: NodeName, C: Clock> {
+pub(crate) struct LinkReporter<'o, 'a, W: Write, E: Write, V: Write, J: NodeName, C: Clock> {
     alloc: Global,
+    /// Where a line for each end goes, unless lines have the time.
     output: &'o mut Output<'a, W, E>,
-    heads: &'o Heads<'o, C>,
+    prints_ends: bool,
+    log: LineLog<'o, C, V>,
+    clock: &'o C,
+    /// The clock, in milliseconds.
+    now: u64,
     level: Level,
     reports: Option<Reports<J>>,
     failures: Failures,
+    limit: LineLimit,
     /// How many connections opened.
     count: u64,
-    /// The number of the connection at each place, and the address of its peer, where it has one.
+    /// The number of the connection at each place, its door, and the address of its peer, where it has one.
     links: HashMap<usize, Peer>,
 }
 
-impl<'o, 'a, W: Write, E: Write, J: NodeName, C: Clock> LinkReporter<'o, 'a, W, E, J, C> {
+impl<'o, 'a, W: Write, E: Write, V: Write, J: NodeName, C: Clock> LinkReporter<
+    'o,
+    'a,
+    W,
+    E,
+    V,
+    J,
+    C,
+> {
     pub(crate) fn new(
         alloc: Global,
         output: &'o mut Output<'a, W, E>,
-        heads: &'o Heads<'o, C>,
+        heads: &Heads<'o, C>,
+        words: V,
         level: Level,
         reports: Option<Reports<J>>,
-    ) -> LinkReporter<'o, 'a, W, E, J, C> {
+    ) -> LinkReporter<'o, 'a, W, E, V, J, C> {
         LinkReporter {
             alloc,
             output,
-            heads,
+            prints_ends: !heads.are_dated(),
+            log: heads.log_to(words),
+            clock: heads.clock(),
+            now: 0,
             level,
             reports,
-            failures: Failures {
-                last: None,
-                told: None,
-                untold: 0,
-            },
+            failures: Failures::none(),
+            limit: LineLimit::new(alloc),
             count: 0,
             links: HashMap::new(alloc),
         }
     }
 
-    /// The number of the connection at a place, 0 where memory ran out for it.
-    fn link(&self, place: usize) -> u64 {
+    /// The connection at a place; its number is 0 where memory ran out for it.
+    fn peer(&self, place: usize) -> Peer {
         match self.links.get(&place) {
-            Some(peer) => peer.link,
-            None => 0,
+            Some(peer) => *peer,
+            None => Peer {
+                link: 0,
+                door: NO_DOOR,
+                address: None,
+            },
         }
     }
 
-    /// Counts a connection at a place, from this address.
-    fn count(&mut self, place: usize, address: Option<SocketAddr>) {
+    /// Counts a connection at a place of a door, from this address.
+    fn count(&mut self, place: usize, door: usize, address: Option<SocketAddr>) {
         self.count = self.count.saturating_add(1);
         let link = self.count;
         // Where memory runs out its lines have no number.
-        let _kept = self.links.insert(place, Peer { link, address });
-    }
-
-    /// Begins a line of the connection at a place, or of no connection.
-    fn begin(&mut self, grade: Grade, place: Option<usize>) {
-        let peer = match place {
-            Some(place) => match self.links.get(&place) {
-                Some(peer) => peer.address,
-                None => None,
+        let _kept = self.links.insert(
+            place,
+            Peer {
+                link,
+                door,
+                address,
             },
-            None => None,
+        );
+    }
+
+    /// Looks at the clock, which never goes back.
+    fn look_at_clock(&mut self) {
+        if let Ok(time) = self.clock.monotonic() {
+            let now = u64::try_from(time.as_millis()).unwrap_or(0);
+            self.now = self.now.max(now);
+        }
+    }
+
+    /// Whether a line of this kind is printed; else it is counted.
+    fn admits(&mut self, door: usize, event: &'static str, number: u8) -> bool {
+        let kind = LineKind {
+            door,
+            event,
+            number,
         };
-        if let Ok(head) = self.heads.head(grade, peer) {
-            self.output.note(head.as_str());
+        self.limit.admits(kind, self.now)
+    }
+
+    /// Prints that a connection opened, unless only faults are wanted.
+    fn note_opened(&mut self, place: usize) {
+        let Peer {
+            link,
+            door,
+            address,
+        } = self.peer(place);
+        if self.level != Level::Faults && self.admits(door, "opened", 0) {
+            info!(self.log; peer = address, event = "opened", link:% = link; "link {link}: opened");
         }
     }
 
-    /// Prints a line, where there was memory for it.
-    fn say(&mut self, line: Result<String, AllocError>) {
-        if let Ok(line) = line {
-            self.output.note(line.as_str());
+    /// The same of one that ended well.
+    fn note_ended(&mut self, place: usize) {
+        let Peer {
+            link,
+            door,
+            address,
+        } = self.peer(place);
+        if self.level != Level::Faults && self.admits(door, "ended", 0) {
+            info!(self.log; peer = address, event = "ended", link:% = link, number = 0u8; "link {link}: ended 0");
         }
-    }
-
-    /// Prints that a connection did something that is no fault, unless only faults are wanted.
-    fn note(&mut self, place: usize, what: &str) {
-        if self.level == Level::Faults {
-            return;
-        }
-        let link = self.link(place);
-        self.begin(Grade::Info, Some(place));
-        let line = format!(in self.alloc; "link {link}: {what}\n");
-        self.say(line);
     }
 
     /// Prints that a change took effect, where each is wanted.
     fn note_change(&mut self, place: usize, ops: u64) {
-        if self.level != Level::Changes {
-            return;
+        let Peer {
+            link,
+            door,
+            address,
+        } = self.peer(place);
+        if self.level == Level::Changes && self.admits(door, "done", 0) {
+            info!(self.log; peer = address, event = "done", link:% = link, operations:% = ops; "link {link}: done {ops}");
         }
-        let link = self.link(place);
-        self.begin(Grade::Info, Some(place));
-        let line = format!(in self.alloc; "link {link}: done {ops}\n");
-        self.say(line);
     }
 
     /// Prints the front after so many changes.
     fn note_front(&mut self, changes: u64, horizon: Time, readable: Time) {
-        self.begin(Grade::Info, None);
-        let line = format!(in self.alloc; "after {changes} changes: front {horizon} {readable}\n");
-        self.say(line);
+        if self.admits(NO_DOOR, "front", 0) {
+            info!(self.log; peer = NOBODY, event = "front", changes:% = changes, horizon:% = horizon, readable:% = readable;
+                "after {changes} changes: front {horizon} {readable}");
+        }
     }
 
     /// Counts a change, and prints the front where it is time for that.
@@ -194,83 +222,143 @@ impl<'o, 'a, W: Write, E: Write, J: NodeName, C: Clock> LinkReporter<'o, 'a, W, 
         let changes = reports.changes;
         match reports.seat.front() {
             Ok(front) => self.note_front(changes, front.horizon, front.readable),
-            Err(why) => self.tell_node("front", why.number()),
+            Err(why) => self.tell_node("front", "front", why.number()),
         }
     }
 
     /// Prints what failed of the node, in words.
-    fn tell_node(&mut self, what: &str, number: u8) {
-        self.begin(Grade::Error, None);
-        self.output.tell_known(Place::Whole, what, number);
+    fn tell_node(&mut self, event: &'static str, what: &str, number: u8) {
+        if let Ok(words) = known_words(self.alloc, Place::Whole, what, number) {
+            error!(self.log; peer = NOBODY, event, number; "{words}");
+        }
     }
 
     /// Prints that an accept failed, or counts it where one failed less than a second before.
     fn not_accepted(&mut self) {
-        let clock = self.heads.clock();
-        let is_first = is_over(clock, self.failures.last);
-        self.failures.last = Instant::now(clock).ok();
-        if is_first {
-            self.failures.told = Instant::now(clock).ok();
-            self.tell_node("not accepted", 93);
-        } else {
-            self.failures.untold = self.failures.untold.saturating_add(1);
+        if self.failures.is_first(self.now) {
+            self.tell_node("not_accepted", "not accepted", 93);
         }
     }
 
     /// Prints how many more accepts failed, where that is due.
     fn tell_failures(&mut self) {
-        let clock = self.heads.clock();
-        let more = self.failures.untold;
-        if more == 0 || !is_over(clock, self.failures.told) {
-            return;
+        let more = self.failures.take_more(self.now);
+        if more > 0 {
+            error!(self.log; peer = NOBODY, event = "not_accepted", number = 93u8, more:% = more; "not accepted 93 ({more} more)");
         }
-        self.failures.told = Instant::now(clock).ok();
-        self.failures.untold = 0;
-        self.begin(Grade::Error, None);
-        let line = format!(in self.alloc; "not accepted 93 ({more} more)\n");
-        self.say(line);
     }
 
-    /// Prints what failed of the connection at a place, in words.
-    fn tell_link(&mut self, place: usize, what: &str, number: u8) {
-        let link = self.link(place);
-        self.begin(Grade::Warn, Some(place));
-        self.output.tell_known(Place::Link(link), what, number);
+    /// Prints how many more lines of a kind there were.
+    fn tell_more(&mut self, kind: LineKind, more: u64) {
+        let Ok(words) = more_words(self.alloc, kind, more) else {
+            return;
+        };
+        let (of, number) = (kind.event, kind.number);
+        let door = u64::try_from(kind.door)
+            .ok()
+            .filter(|_it| kind.door != NO_DOOR);
+        if number == 0 {
+            info!(self.log; peer = NOBODY, event = "more", of, number, door, more:% = more; "{words}");
+        } else {
+            warn!(self.log; peer = NOBODY, event = "more", of, number, door, more:% = more; "{words}");
+        }
+    }
+
+    /// Prints of each kind how many more lines there were, where that is due.
+    fn tell_due(&mut self) {
+        self.tell_failures();
+        for _ in 0..u64::MAX {
+            let Some((kind, more)) = self.limit.take_more(self.now) else {
+                return;
+            };
+            self.tell_more(kind, more);
+        }
+    }
+
+    /// Prints that a change was refused, and what it begins with.
+    fn tell_refused(&mut self, place: usize, number: u8, about: Option<Subject>) {
+        let Peer {
+            link,
+            door,
+            address,
+        } = self.peer(place);
+        if !self.admits(door, "refused", number) {
+            return;
+        }
+        let (table, key, time) = match &about {
+            Some(it) => (
+                Some(it.table.number()),
+                Some(display(it.key)),
+                Some(display(it.time)),
+            ),
+            None => (None, None, None),
+        };
+        let Ok(words) = refused_words(self.alloc, link, number, about) else {
+            return;
+        };
+        warn!(self.log; peer = address, event = "refused", link:% = link, number, table, key, at = time; "{words}");
+    }
+
+    /// Prints how a connection ended that didn't end well.
+    fn tell_ended(&mut self, place: usize, number: u8, speech: Option<Speech>) {
+        let Peer {
+            link,
+            door,
+            address,
+        } = self.peer(place);
+        if !self.admits(door, "ended", number) {
+            return;
+        }
+        if let Ok(words) = ended_words(self.alloc, link, number, speech) {
+            let speaks = speech.map(speech_word);
+            warn!(self.log; peer = address, event = "ended", link:% = link, number, speaks; "{words}");
+        }
     }
 
     /// Prints how the connection at a place ended; where lines have the time, in words alone.
-    fn ended(&mut self, place: usize, ended: Ended) {
+    fn ended(&mut self, place: usize, ended: Ended, speech: Option<Speech>) {
         let number = ended.number();
         if number == 0 {
-            self.note(place, "ended 0");
+            self.note_ended(place);
         } else {
-            self.tell_link(place, "ended", number);
+            self.tell_ended(place, number, speech);
         }
         self.links.remove(&place);
-        if !self.heads.are_dated() {
+        if self.prints_ends {
             // Where the line can't be printed the node serves on.
             let _printed = self.output.print(&Notice::Ended(number));
+            let _written = self.output.flush();
         }
     }
 }
 
-impl<W: Write, E: Write, J: NodeName, C: Clock> Watch for LinkReporter<'_, '_, W, E, J, C> {
+impl<W: Write, E: Write, V: Write, J: NodeName, C: Clock> Watch
+    for LinkReporter<'_, '_, W, E, V, J, C> {
     fn told(&mut self, place: usize, event: LinkEvent) {
-        self.tell_failures();
+        self.look_at_clock();
+        self.tell_due();
         match event {
-            LinkEvent::Opened(address) => {
-                self.count(place, address);
-                self.note(place, "opened");
+            LinkEvent::Opened { door, address } => {
+                self.count(place, door, address);
+                self.note_opened(place);
             }
-            LinkEvent::Refused(number) => self.tell_link(place, "refused", number),
+            LinkEvent::Refused { number, about } => self.tell_refused(place, number, about),
             LinkEvent::Changed(ops) => {
                 self.note_change(place, ops);
                 self.report_change();
             }
-            LinkEvent::Ended(ended) => self.ended(place, ended),
+            LinkEvent::Ended { ended, speech } => self.ended(place, ended, speech),
             LinkEvent::NotAccepted => self.not_accepted(),
-            LinkEvent::NotStarted => self.tell_node("not started", 90),
+            LinkEvent::NotStarted => self.tell_node("not_started", "not started", 90),
         }
-        let _written = self.output.flush();
+    }
+
+    fn is_owing(&self) -> bool {
+        self.failures.is_owing() || self.limit.is_owing()
+    }
+
+    fn tell_owed(&mut self) {
+        self.look_at_clock();
+        self.tell_due();
     }
 }

@@ -2,12 +2,18 @@
 
 use hk_cli_calls::VERSION;
 use hk_net::{Meters, PartsBudget};
+use libc::types::rlimit;
 use std::alloc::{AllocError, Global};
 use std::fs::{File, Files};
 use std::rt::Clock;
 
 /// The system's text on the process.
 const PROCESS: &str = "/proc/self/status";
+
+/// The system's number of the limit of a process' address space, and what it has where there is none.
+const ADDRESSES: i32 = 9;
+
+const NO_LIMIT: u64 = u64::MAX;
 
 /// The version of a program as one number: 1,000,000 for each major one, 1,000 for each minor one, and 1 for each patch. 0 where these
 /// words don't begin with one.
@@ -19,6 +25,19 @@ fn number_of(version: &str) -> u64 {
         number = number.saturating_mul(1_000).saturating_add(part);
     }
     number
+}
+
+/// The bytes of address space that the process may take, where that has a limit.
+fn memory_limit() -> Option<u64> {
+    let mut limit = rlimit {
+        rlim_cur: 0,
+        rlim_max: 0,
+    };
+    if libc::getrlimit(ADDRESSES, &mut limit) == 0 && limit.rlim_cur != NO_LIMIT {
+        Some(limit.rlim_cur)
+    } else {
+        None
+    }
 }
 
 /// The meters of a node that begins now, of so many doors. The memory of the process is left out where the system has no text on it.
@@ -43,6 +62,7 @@ where
         readers,
         program,
         process,
+        memory_limit(),
         started,
         doors,
     )

@@ -39,7 +39,7 @@ pub(crate) fn budget_of(
 }
 
 /// The line for a program that was built without proofs.
-const UNPROVED: &str =
+pub(crate) const UNPROVED: &str =
     "unproved: this program was built without one proof, to be looked at; make builds the proved one\n";
 
 /// Prints a line where the program was built without proofs.
@@ -79,7 +79,9 @@ fn print_ends<W: Write, E: Write>(ends: &[Ended], output: &mut Output<'_, W, E>)
 }
 
 /// The list of a new node of this log, guarded or not.
-pub(crate) fn new_list(config: Config, is_guarded: bool) -> NewList {
+pub(crate) fn new_list(config: Config, is_guarded: bool) -> NewList
+    ensures { (result.1.config ≡ config) × (result.1.guarded ≡ is_guarded) }
+{
     if is_guarded {
         NewList::guarded(config)
     } else {

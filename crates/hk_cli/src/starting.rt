@@ -3,12 +3,14 @@
 ghost use Rattle.std.specs.Prelude.{⊤};
 ghost use Rattle.std.specs.Thread.{IsSync};
 
-use crate::head::{Grade, Heads};
+use crate::head::{Grade, Heads, tell_source};
+use crate::outcome::{Begun, Outcome};
 use hk_cli_calls::{Limits, NodePlace, OutputForm, Start};
 use hk_cli_commands::Output;
 use hk_cli_input::Stop;
 use hk_cli_reasons::{Origin, Place, RequestContext};
 use hk_cli_remote::{fetch_from, refusal_of};
+use hk_cli_sums::Summed;
 use hk_model::{Front, Told};
 use hk_net::{LinkState, NodeHost, PartsBudget, PartsHost};
 use hk_node::{Node, NodeName, ReaderSeat};
@@ -17,21 +19,22 @@ use hk_types::{FormFault, Refusal, Time};
 use hk_wire::{LaterRequest, Reply, Request};
 use std::alloc::{AllocError, Global};
 use std::fs::Files;
-use std::io::{Read, Write};
+use std::io::{ErrorKind, Read, Write};
 use std::net::{Net, TcpListener, TcpStream};
 use std::rt::Clock;
 use std::sync::Wait;
 use std::thread::Threads;
 use std::{fs, io, mem};
 
-/// How long another node is waited for: it is tried once, and may let a request wait for half a minute.
-const LIMITS: Limits = Limits {
-    connect_seconds: 0,
-    reply_seconds: 30,
-};
+/// For how many seconds another node may let a request wait.
+const REPLY_SECONDS: u64 = 30;
 
 /// The refusal of a request that gives no snapshot.
 const BAD_KIND: Refusal = Refusal::Form(FormFault::BadKind);
+
+/// What is said of a file that has no checksum, behind its name.
+const NO_CHECKSUM: &str =
+    "it has no checksum, so corrupt bytes may not show; 'hkrep save' writes one\n";
 
 /// The origin of what a node of the same program refuses.
 const HERE: Origin = Origin {
@@ -201,17 +204,34 @@ impl<J: NodeName, N: Wait + Drop, R: Threads + Wait + Sync> Host for Own<'_, '_,
 enum Source<'a> {
     /// What `save` wrote into the file of this name.
     File(&'a str),
-    /// What the node at a place has above what this one has.
-    Node(NodePlace<'a>),
+    /// What the node at a place has above what this one has; its replies have to come by so many bytes a second.
+    Node(NodePlace<'a>, u64),
+}
+
+/// How long another node is waited for: it is tried once.
+fn limits_of(read_rate: u64) -> Limits {
+    Limits {
+        connect_seconds: 0,
+        reply_seconds: REPLY_SECONDS,
+        read_rate,
+    }
+}
+
+/// How it comes to the node, in a word.
+fn event_of(source: Source<'_>) -> &'static str {
+    match source {
+        Source::File(_) => "load",
+        Source::Node(..) => "from",
+    }
 }
 
 /// What it is called in lines.
 fn name_of(alloc: Global, source: Source<'_>) -> Result<String, AllocError> {
     match source {
-        Source::File(name) => format!(in alloc; "load {name}: "),
-        Source::Node(NodePlace::Port(port)) => format!(in alloc; "from 127.0.0.1:{port}: "),
-        Source::Node(NodePlace::Address(address)) => format!(in alloc; "from {address}: "),
-        Source::Node(NodePlace::Path(path)) => format!(in alloc; "from unix:{path}: "),
+        Source::File(name) => String::from_str(alloc, name),
+        Source::Node(NodePlace::Port(port), _) => format!(in alloc; "127.0.0.1:{port}"),
+        Source::Node(NodePlace::Address(address), _) => String::from_str(alloc, address),
+        Source::Node(NodePlace::Path(path), _) => format!(in alloc; "unix:{path}"),
     }
 }
 
@@ -234,13 +254,14 @@ fn show(alloc: Global, front: Front, words: &mut Vec<u8>) {
 fn is_fetched<R: Net<Listener = TcpListener, Stream = TcpStream> + Clock + Alloc<A = Global>>(
     rt: &R,
     place: NodePlace<'_>,
+    rate: u64,
     base: Time,
     frames: &mut Vec<u8>,
     words: &mut Vec<u8>,
 ) -> bool {
     let alloc = rt.alloc();
     let mut output = Output::of_form(alloc, OutputForm::Bytes, frames, words);
-    match fetch_from(rt, alloc, place, LIMITS, base, &mut output) {
+    match fetch_from(rt, alloc, place, limits_of(rate), base, &mut output) {
         Ok(()) => output.flush().is_ok(),
         Err(stop) => {
             let _status = output.stop(stop);
@@ -249,24 +270,25 @@ fn is_fetched<R: Net<Listener = TcpListener, Stream = TcpStream> + Clock + Alloc
     }
 }
 
-/// Has the node take what another has above what it has. `None` where why not is in the words already.
+/// Has the node take what another has above what it has. Where it gave nothing, why not is in the words already.
 fn take_node<J: NodeName, N: Wait + Drop, R>(
     rt: &R,
     place: NodePlace<'_>,
+    rate: u64,
     own: &mut Own<'_, '_, J, N, R>,
     words: &mut Vec<u8>,
-) -> Result<bool, Stop>
+) -> Result<Outcome, Stop>
 where
     R: Net<Listener = TcpListener, Stream = TcpStream> + Clock + Alloc<A = Global>,
     R: Threads + Wait + Sync,
 {
     let front = own.front()?;
     let mut frames = Vec::new(rt.alloc());
-    if !is_fetched(rt, place, front.readable, &mut frames, words) {
-        return Ok(false);
+    if !is_fetched(rt, place, rate, front.readable, &mut frames, words) {
+        return Ok(Outcome::Absent);
     }
     own.take_input(rt.alloc(), frames.as_slice())?;
-    Ok(true)
+    Ok(Outcome::Taken)
 }
 
 /// Adds in words why a file can't be opened.
@@ -275,94 +297,148 @@ fn put_unopened(alloc: Global, error: &io::Error, words: &mut Vec<u8>) -> Result
     words.extend_from_slice(line.as_bytes())
 }
 
-/// Has the node take the snapshot of the file of this name. `false` where why not is in the words already.
+/// Has the node take the snapshot of an open file, once its checksum was read and is right; one without is taken too.
+fn take_summed<J: NodeName, N: Wait + Drop, R: Threads + Wait + Sync, I: Read + Drop>(
+    alloc: Global,
+    file: I,
+    own: &mut Own<'_, '_, J, N, R>,
+) -> Result<Outcome, Stop> {
+    let mut summed = Summed::new(alloc, file)?;
+    let taken = own.take_input(alloc, &mut summed);
+    if let Some(fault) = summed.fault() {
+        return Err(Stop::Sum(fault));
+    }
+    taken?;
+    if summed.is_open() {
+        return Ok(Outcome::TakenUnchecked);
+    }
+    Ok(Outcome::Taken)
+}
+
+/// What came of a file that can't be opened.
+fn unopened(error: &io::Error) -> Outcome {
+    match error.kind() {
+        ErrorKind::NotFound => Outcome::Absent,
+        _there => Outcome::Refused,
+    }
+}
+
+/// Has the node take the snapshot of the file of this name. Where it can't be opened, why not is in the words already.
 fn take_file<J: NodeName, N: Wait + Drop, R: Threads + Wait + Sync + Files + Alloc<A = Global>>(
     rt: &R,
     name: &str,
     own: &mut Own<'_, '_, J, N, R>,
     words: &mut Vec<u8>,
-) -> Result<bool, Stop> {
+) -> Result<Outcome, Stop> {
     match fs::open(rt, name) {
-        Ok(file) => {
-            own.take_input(rt.alloc(), file)?;
-            Ok(true)
-        }
+        Ok(file) => take_summed(rt.alloc(), file, own),
         Err(error) => {
             put_unopened(rt.alloc(), &error, words)?;
-            Ok(false)
+            Ok(unopened(&error))
         }
     }
 }
 
-/// Has the node take something, and adds in words what came of it. Returns whether it was taken.
+/// Has the node take something, and adds in words what came of it.
 fn take_source<J: NodeName, N: Wait + Drop, R>(
     rt: &R,
     source: Source<'_>,
     own: &mut Own<'_, '_, J, N, R>,
     words: &mut Vec<u8>,
-) -> Result<bool, Stop>
+) -> Result<Outcome, Stop>
 where
     R: Net<Listener = TcpListener, Stream = TcpStream> + Clock + Files + Alloc<A = Global>,
     R: Threads + Wait + Sync,
 {
-    let is_taken = match source {
+    let outcome = match source {
         Source::File(name) => take_file(rt, name, own, words)?,
-        Source::Node(place) => take_node(rt, place, own, words)?,
+        Source::Node(place, rate) => take_node(rt, place, rate, own, words)?,
     };
-    if is_taken {
+    if outcome.is_taken() {
         let front = own.front()?;
         show(rt.alloc(), front, words);
     }
-    Ok(is_taken)
+    Ok(outcome)
+}
+
+/// How grave it is what came of taking something.
+fn grade_of(outcome: Outcome) -> Grade {
+    match outcome {
+        Outcome::Taken | Outcome::TakenUnchecked => Grade::Info,
+        Outcome::Absent => Grade::Warn,
+        Outcome::Refused => Grade::Error,
+    }
 }
 
 /// Prints what came of taking something.
 fn tell_taken<C: Clock, W: Write, E: Write>(
     alloc: Global,
     heads: &Heads<'_, C>,
-    is_taken: bool,
+    outcome: Outcome,
     source: Source<'_>,
     words: &[u8],
     output: &mut Output<'_, W, E>,
 ) -> Result<(), AllocError> {
-    let grade = if is_taken { Grade::Info } else { Grade::Warn };
-    let head = heads.head(grade, None)?;
-    output.note(head.as_str());
     let name = name_of(alloc, source)?;
-    output.note(name.as_str());
-    output.note(str::from_utf8(words).unwrap_or("\n"));
+    let words = str::from_utf8(words).unwrap_or("");
+    let event = event_of(source);
+    tell_source(
+        heads,
+        grade_of(outcome),
+        event,
+        name.as_str(),
+        words,
+        output,
+    );
+    if matches!(outcome, Outcome::TakenUnchecked) {
+        tell_source(
+            heads,
+            Grade::Warn,
+            event,
+            name.as_str(),
+            NO_CHECKSUM,
+            output,
+        );
+    }
     Ok(())
 }
 
+/// What came of a source that stopped before it was taken.
+fn stopped(source: Source<'_>) -> Outcome {
+    match source {
+        Source::File(_) => Outcome::Refused,
+        Source::Node(..) => Outcome::Absent,
+    }
+}
+
 /// The same, with why it stopped in words.
-fn is_taken<J: NodeName, N: Wait + Drop, R>(
+fn outcome_of<J: NodeName, N: Wait + Drop, R>(
     rt: &R,
     source: Source<'_>,
     own: &mut Own<'_, '_, J, N, R>,
     words: &mut Vec<u8>,
-) -> bool
+) -> Outcome
 where
     R: Net<Listener = TcpListener, Stream = TcpStream> + Clock + Files + Alloc<A = Global>,
     R: Threads + Wait + Sync,
 {
     match take_source(rt, source, own, words) {
-        Ok(is_taken) => is_taken,
+        Ok(outcome) => outcome,
         Err(stop) => {
             explain(rt.alloc(), stop, words);
-            false
+            stopped(source)
         }
     }
 }
 
-/// Has a node take something by a seat of it, which is there again after, and adds in words what came of it. Returns whether it was
-/// taken.
+/// Has a node take something by a seat of it, which is there again after, and adds in words what came of it.
 fn taken_by<J: NodeName, N: Wait + Drop, R>(
     rt: &R,
     source: Source<'_>,
     node: &Node<J, N>,
     seat: &mut Option<ReaderSeat<J>>,
     words: &mut Vec<u8>,
-) -> bool
+) -> Outcome
 where
     R: Net<Listener = TcpListener, Stream = TcpStream> + Clock + Files + Alloc<A = Global>,
     R: Threads + Wait + Sync,
@@ -370,16 +446,16 @@ where
     // Nobody else is served yet.
     let Ok(budget) = PartsBudget::new(rt.alloc(), u64::MAX) else {
         explain(rt.alloc(), Stop::Refused(Refusal::Memory), words);
-        return false;
+        return stopped(source);
     };
     let Some(reader) = mem::take(seat) else {
-        return false;
+        return stopped(source);
     };
     let host = NodeHost::new(rt, rt.alloc(), node, reader);
     let mut own = Own::new(rt.alloc(), host, &budget);
-    let is_taken = is_taken(rt, source, &mut own, words);
+    let outcome = outcome_of(rt, source, &mut own, words);
     *seat = Some(own.into_seat());
-    is_taken
+    outcome
 }
 
 /// The same, and prints what came of it.
@@ -390,22 +466,48 @@ fn taken_and_told<J: NodeName, N: Wait + Drop, R, W: Write, E: Write>(
     node: &Node<J, N>,
     seat: &mut Option<ReaderSeat<J>>,
     output: &mut Output<'_, W, E>,
-) -> bool
+) -> Outcome
 where
     R: Net<Listener = TcpListener, Stream = TcpStream> + Clock + Files + Alloc<A = Global>,
     R: Threads + Wait + Sync,
 {
     let mut words = Vec::new(rt.alloc());
-    let is_taken = taken_by(rt, source, node, seat, &mut words);
-    let _told = tell_taken(rt.alloc(), heads, is_taken, source, &words, output);
-    is_taken
+    let outcome = taken_by(rt, source, node, seat, &mut words);
+    let _told = tell_taken(rt.alloc(), heads, outcome, source, &words, output);
+    outcome
+}
+
+/// Has a node take what the first of these files has that is whole. Where none is and one is there, that is refused.
+fn taken_of_files<J: NodeName, N: Wait + Drop, R, W: Write, E: Write>(
+    rt: &R,
+    heads: &Heads<'_, R>,
+    files: &[Option<&str>],
+    node: &Node<J, N>,
+    seat: &mut Option<ReaderSeat<J>>,
+    output: &mut Output<'_, W, E>,
+) -> Outcome
+where
+    R: Net<Listener = TcpListener, Stream = TcpStream> + Clock + Files + Alloc<A = Global>,
+    R: Threads + Wait + Sync,
+{
+    let mut outcome = Outcome::Absent;
+    for name in files {
+        if let Some(name) = name {
+            let next = taken_and_told(rt, heads, Source::File(name), node, seat, output);
+            outcome = outcome.or(next);
+            if outcome.is_taken() {
+                return outcome;
+            }
+        }
+    }
+    outcome
 }
 
 /// Has a node take what the first of these nodes has that gives something. Returns whether one did.
 fn taken_of_first<J: NodeName, N: Wait + Drop, R, W: Write, E: Write>(
     rt: &R,
     heads: &Heads<'_, R>,
-    sources: &[Option<NodePlace<'_>>],
+    start: &Start<'_>,
     node: &Node<J, N>,
     seat: &mut Option<ReaderSeat<J>>,
     output: &mut Output<'_, W, E>,
@@ -414,9 +516,10 @@ where
     R: Net<Listener = TcpListener, Stream = TcpStream> + Clock + Files + Alloc<A = Global>,
     R: Threads + Wait + Sync,
 {
-    for place in sources {
+    for place in &start.sources {
         if let Some(place) = place {
-            if taken_and_told(rt, heads, Source::Node(*place), node, seat, output) {
+            let source = Source::Node(*place, start.read_rate);
+            if taken_and_told(rt, heads, source, node, seat, output).is_taken() {
                 return true;
             }
         }
@@ -424,10 +527,10 @@ where
     false
 }
 
-/// Has a node take what it begins with, by a seat of it, which is there again after: first what the file has, then what the first node
-/// that gives something has above that. Each is taken whole or not at all, as over a connection that may do everything, without one; a
-/// line on `errors` says what came of it. Returns whether anything was taken. Cost: that of what is taken, which is kept beside the node
-/// until then.
+/// Has a node take what it begins with, by a seat of it, which is there again after: first what the first file has that is whole, then
+/// what the first node that gives something has above that. Each is taken whole or not at all, as over a connection that may do
+/// everything, without one; a line on `errors` says what came of it. Where a file is there and none is whole, no node is asked, unless
+/// a file may lack. Cost: that of what is taken, which is kept beside the node until then.
 pub(crate) fn begin<J: NodeName, N: Wait + Drop, R, W: Write, E: Write>(
     rt: &R,
     heads: &Heads<'_, R>,
@@ -435,15 +538,19 @@ pub(crate) fn begin<J: NodeName, N: Wait + Drop, R, W: Write, E: Write>(
     seat: &mut Option<ReaderSeat<J>>,
     start: &Start<'_>,
     output: &mut Output<'_, W, E>,
-) -> bool
+) -> Begun
 where
     R: Net<Listener = TcpListener, Stream = TcpStream> + Clock + Files + Alloc<A = Global>,
     R: Threads + Wait + Sync,
 {
-    let has_file = match start.file {
-        Some(name) => taken_and_told(rt, heads, Source::File(name), node, seat, output),
-        None => false,
-    };
-    let has_node = taken_of_first(rt, heads, &start.sources, node, seat, output);
-    has_file || has_node
+    let file = taken_of_files(rt, heads, &start.files, node, seat, output);
+    if matches!(file, Outcome::Refused) && !start.may_lack_file {
+        return Begun::Refused;
+    }
+    let has_node = taken_of_first(rt, heads, start, node, seat, output);
+    if file.is_taken() || has_node {
+        Begun::WithData
+    } else {
+        Begun::Empty
+    }
 }

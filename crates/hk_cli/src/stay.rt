@@ -3,22 +3,25 @@
 ghost use Rattle.std.specs.Prelude.{◌≡◌, ◌<◌, ◌≤◌};
 ghost use Rattle.std.specs.Thread.{IsSend, IsSync};
 
-use crate::head::Heads;
+use crate::head::{Heads, heads_of, note_text};
 use crate::link_reporter::{LinkReporter, Reports};
 use crate::listening::{many_listener_of, most_files, port_of, socket_listener};
 use crate::memory::share_of_memory;
 use crate::metering::meters_of;
 use crate::notice::Notice;
-use crate::serve::{budget_of, new_list, stop_of, tell_unproved};
+use crate::outcome::Begun;
+use crate::serve::{UNPROVED, budget_of, new_list, stop_of, tell_unproved};
 use crate::starting::begin;
 use crate::texts::{Backlog, MOST_WAITING, Target, Text, TextWriter, write_texts};
 use crossbeam_channel::{Sender, bounded};
-use hk_cli_calls::{Level, OtherPort, OutputForm, PartsLimit, Start, Stay};
+use hk_cli_calls::{IS_PROVED, Level, OtherPort, OutputForm, PartsLimit, Start, Stay};
 use hk_cli_commands::Output;
+use hk_cli_events::WrappedWords;
 use hk_cli_input::Stop;
 use hk_net::{Door, Limits, Meters, NetFault, PartsBudget, serve_forever};
 use hk_node::{NewList, Node, NodeName, ReaderSeat, start};
 use hk_types::{Config, Refusal};
+use log::warn;
 use std::alloc::{AllocError, Global};
 use std::fs::{File, Files};
 use std::io::Write;
@@ -45,6 +48,11 @@ const PLAIN_BYTES: u64 = 1_073_741_824;
 /// The line where a node that needs data can have none.
 const NO_DATA: &str =
     "stopped: there is no data, and --need-data is given; see the lines above, or start it without\n";
+
+/// The line where a file is there and none is whole.
+const NO_FILE: &str =
+    "stopped: a file of --load is there, and none is whole; see the lines above. Give another by --load, put it elsewhere, or begin \
+without it by --load-or-empty: 'hkrep save' to its name takes its place then\n";
 
 /// The listeners of the ports and sockets, of those that there are.
 #[derive(Drop)]
@@ -353,34 +361,27 @@ fn links_wanted(stay: &Stay<'_>) -> u64 {
 }
 
 /// Says so where the process may open too few files for its connections: further ones wait then.
-fn tell_files<W: Write, E: Write>(
-    alloc: Global,
+fn tell_files<C: Clock, W: Write, E: Write>(
+    heads: &Heads<'_, C>,
     workers: usize,
     stay: &Stay<'_>,
     output: &mut Output<'_, W, E>,
-) -> Result<(), AllocError>
+)
     requires { workers ≤ 31 }
 {
     let others = OTHER_FILES + FILES_A_WORKER * workers as u64;
     let links = links_wanted(stay);
     let wanted = links.saturating_add(others);
-    match most_files() {
-        Some(most) if most < wanted => {
-            let served = most.saturating_sub(others);
-            let line = format!(in alloc;
-                "{served} of {links} connections are served at once: the program may open {most} files; \
-raise that by 'ulimit -n', or by LimitNOFILE= of its unit\n"
-            )?;
-            output.note(line.as_str());
-            Ok(())
-        }
-        _enough => Ok(()),
-    }
-}
-
-/// What stands before a node's lines: nothing, or as `node` the time and more.
-fn heads_of<'c, R: Clock>(rt: &'c R, alloc: Global, stay: &Stay<'_>) -> Heads<'c, R> {
-    Heads::new(alloc, rt, stay.start.is_some())
+    let Some(most) = most_files().filter(|most| *most < wanted) else {
+        return;
+    };
+    let served = most.saturating_sub(others);
+    let log = heads.log_text();
+    let nobody: Option<SocketAddr> = None;
+    warn!(log; peer = nobody, event = "files", served:% = served, connections:% = links, files:% = most;
+        "{served} of {links} connections are served at once: the program may open {most} files; \
+raise that by 'ulimit -n', or by LimitNOFILE= of its unit");
+    note_text(log, output);
 }
 
 /// How many bytes all connections keep at most for messages of version 2, where these are answered.
@@ -422,9 +423,10 @@ fn serve_doors<
     backlog: &Backlog,
 ) -> Result<(), NetFault> {
     let mut lines = TextWriter::new(rt, alloc, Target::Lines, &texts, backlog);
-    let mut words = TextWriter::new(rt, alloc, Target::Words, &texts, backlog);
-    let mut output = Output::new(alloc, &mut lines, &mut words);
-    let mut reporter = LinkReporter::new(alloc, &mut output, &heads, level, reports);
+    let words = TextWriter::new(rt, alloc, Target::Words, &texts, backlog);
+    let mut others = TextWriter::new(rt, alloc, Target::Words, &texts, backlog);
+    let mut output = Output::new(alloc, &mut lines, &mut others);
+    let mut reporter = LinkReporter::new(alloc, &mut output, &heads, words, level, reports);
     serve_forever(
         rt,
         alloc,
@@ -500,7 +502,7 @@ fn put_back<J: NodeName>(
     }
 }
 
-/// Has a node take what it begins with, on one of its seats. Returns whether anything was taken.
+/// Has a node take what it begins with, on one of its seats.
 fn take_on_seat<J: NodeName, N: Wait + Drop, R, W: Write, E: Write>(
     rt: &R,
     node: &Node<J, N>,
@@ -508,19 +510,38 @@ fn take_on_seat<J: NodeName, N: Wait + Drop, R, W: Write, E: Write>(
     start: &Start<'_>,
     seats: &mut Vec<ReaderSeat<J>>,
     output: &mut Output<'_, W, E>,
-) -> Result<bool, Stop>
+) -> Result<Begun, Stop>
 where
     R: Net<Listener = TcpListener, Stream = TcpStream> + Clock + Files + Alloc<A = Global>,
     R: Threads + Wait + Sync,
 {
     let mut seat = seats.pop();
     let heads = heads_of(rt, rt.alloc(), stay);
-    let has_data = begin(rt, &heads, node, &mut seat, start, output);
+    let begun = begin(rt, &heads, node, &mut seat, start, output);
     put_back(seat, seats)?;
-    Ok(has_data)
+    Ok(begun)
 }
 
-/// Has a node take what it begins with. It refuses where nothing was taken and something has to be.
+/// Refuses where a file is there and none is whole, and where nothing was taken and something has to be.
+fn begun_checked<W: Write, E: Write>(
+    start: &Start<'_>,
+    begun: Begun,
+    output: &mut Output<'_, W, E>,
+) -> Result<(), Stop> {
+    match begun {
+        Begun::Refused => {
+            output.note(NO_FILE);
+            Err(Stop::Quit)
+        }
+        Begun::Empty if start.needs_data => {
+            output.note(NO_DATA);
+            Err(Stop::NetTold)
+        }
+        _begins => Ok(()),
+    }
+}
+
+/// Has a node take what it begins with. It refuses where it may not begin with that.
 fn take_start<J: NodeName, N: Wait + Drop, R, W: Write, E: Write>(
     rt: &R,
     node: &Node<J, N>,
@@ -535,13 +556,9 @@ where
     let Some(start) = &stay.start else {
         return Ok(());
     };
-    let has_data = take_on_seat(rt, node, stay, start, seats, output)?;
+    let begun = take_on_seat(rt, node, stay, start, seats, output)?;
     output.flush()?;
-    if start.needs_data && !has_data {
-        output.note(NO_DATA);
-        return Err(Stop::NetTold);
-    }
-    Ok(())
+    begun_checked(start, begun, output)
 }
 
 /// Prints that connections can be opened.
@@ -625,7 +642,8 @@ where
         + Alloc<A = Global>,
     R: Threads + Wait + Sync,
 {
-    tell_files(rt.alloc(), workers_of(rt, stay), stay, output)?;
+    let heads = heads_of(rt, rt.alloc(), stay);
+    tell_files(&heads, workers_of(rt, stay), stay, output);
     output.flush()?;
     let opened = Opened {
         port: port_of(&listeners.open, stay.port),
@@ -678,6 +696,59 @@ where
     stay_open(rt, config, stay, &node, &mut seats, output)
 }
 
+/// Prints a line where the program was built without proofs.
+fn tell_if_unproved<R: Clock, W: Write, E: Write>(
+    heads: &Heads<'_, R>,
+    output: &mut Output<'_, W, E>,
+) {
+    if !heads.are_json() {
+        tell_unproved(output);
+    } else if !IS_PROVED {
+        let log = heads.log_text();
+        let nobody: Option<SocketAddr> = None;
+        let words = UNPROVED.trim_end();
+        warn!(log; peer = nobody, event = "unproved"; "{words}");
+        note_text(log, output);
+    }
+}
+
+/// Where a node prints: as `node` bytes, since it prints one line of its own form.
+fn output_form(stay: &Stay<'_>) -> OutputForm {
+    match stay.start {
+        Some(_) => OutputForm::Bytes,
+        None => OutputForm::Lines,
+    }
+}
+
+/// Starts a node of a log, and serves connections to it without an end.
+fn stay_printing<R, W: Write, E: Write>(
+    rt: &R,
+    config: Config,
+    stay: &Stay<'_>,
+    output: &mut Output<'_, W, E>,
+) -> Result<(), Stop>
+where
+    R: Net<Listener = TcpListener, Stream = TcpStream>
+        + Clock
+        + Files<File = File>
+        + Alloc<A = Global>,
+    R: Threads + Wait + Sync,
+{
+    tell_if_unproved(&heads_of(rt, rt.alloc(), stay), output);
+    let list = new_list(config, stay.is_guarded);
+    stay_list::<Brand, R, W, E>(rt, config, stay, list, output)
+}
+
+/// Prints why serving ended, where it did. The status of the command.
+fn status_of<W: Write, E: Write>(ended: Result<(), Stop>, output: &mut Output<'_, W, E>) -> u8
+    ensures { result ≤ 1 }
+{
+    match ended {
+        Ok(()) => 0,
+        Err(stop) => output.stop(stop),
+    }
+}
+
 /// Starts a node of a log, and serves connections to it without an end: a place is free again when its connection ends. As `node` it
 /// first takes what a file of `save` has, and then what the first of other nodes that answers has above that; neither needs to be
 /// there, unless it is asked for. Prints `listening` and the port once connections can be opened, `feeding` and `reading` and a further
@@ -687,8 +758,9 @@ where
 /// `refused 90` where memory ran out for the node or its threads, and no line where those first lines can't be written, or where nothing
 /// was taken that is asked for. Later lines that can't be written are lost, and the node serves on. Each connection that opens and ends,
 /// each change that is refused, and each accept that failed is printed to `errors` in words, as far as the level asks for it, and the
-/// node's front after so many changes; as `node` with the time, how grave it is, and the peer's address. No connection waits for a line to
-/// be written: where 1,024 texts wait, further lines are dropped, and how many is printed once there is room. Cost: that of `start`, of what is taken, and of `serve_forever`.
+/// node's front after so many changes; as `node` with the time, how grave it is, and the peer's address, or where the call has it so in
+/// lines of JSON. Of one kind of line and one port at most 10 are printed in a second, and then how many more there were. No connection
+/// waits for a line to be written: where 1,024 texts wait, further lines are dropped, and how many is printed once there is room. Cost: that of `start`, of what is taken, and of `serve_forever`.
 pub fn run_stay<R, W: Write, E: Write>(
     rt: &R,
     config: Config,
@@ -704,15 +776,15 @@ where
     R: Threads + Wait + Sync,
     ensures { result ≤ 1 }
 {
-    let form = match stay.start {
-        Some(_) => OutputForm::Bytes,
-        None => OutputForm::Lines,
-    };
-    let mut output = Output::of_form(rt.alloc(), form, writer, errors);
-    tell_unproved(&mut output);
-    let list = new_list(config, stay.is_guarded);
-    match stay_list::<Brand, R, W, E>(rt, config, stay, list, &mut output) {
-        Ok(()) => 0,
-        Err(stop) => output.stop(stop),
+    let (alloc, form) = (rt.alloc(), output_form(stay));
+    if stay.in_json {
+        let mut wrapped = WrappedWords::new(alloc, rt, errors);
+        let mut output = Output::of_form(alloc, form, writer, &mut wrapped);
+        let ended = stay_printing(rt, config, stay, &mut output);
+        status_of(ended, &mut output)
+    } else {
+        let mut output = Output::of_form(alloc, form, writer, errors);
+        let ended = stay_printing(rt, config, stay, &mut output);
+        status_of(ended, &mut output)
     }
 }

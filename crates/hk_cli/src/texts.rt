@@ -1,11 +1,13 @@
 //! The lines of a long-running node, on their way to the thread that writes them.
 
-use crate::head::{Grade, Heads};
+use crate::head::{Heads, note_text};
 use crossbeam_channel::{Receiver, Sender};
 use hk_cli_commands::Output;
+use log::warn;
 use std::alloc::{AllocError, Global};
 use std::io;
 use std::io::Write;
+use std::net::SocketAddr;
 use std::rt::Clock;
 use std::sync::Wait;
 use std::sync::atomic::{AtomicU64, Ordering};
@@ -133,19 +135,20 @@ fn write_text<W: Write, E: Write>(text: &Text, output: &mut Output<'_, W, E>) {
     }
 }
 
-/// Writes how many lines were dropped, if any were.
+/// Writes how many lines were dropped, if any were. Where there is no memory for the line it is lost.
 fn tell_dropped<C: Clock, W: Write, E: Write>(
     heads: &Heads<'_, C>,
     dropped: u64,
     output: &mut Output<'_, W, E>,
-) -> Result<(), AllocError> {
-    if dropped > 0 {
-        let mut line = heads.head(Grade::Warn, None)?;
-        writeln!(line, "{dropped} lines were dropped")?;
-        output.note(line.as_str());
-        let _written = output.flush();
+) {
+    if dropped == 0 {
+        return;
     }
-    Ok(())
+    let log = heads.log_text();
+    let nobody: Option<SocketAddr> = None;
+    warn!(log; peer = nobody, event = "dropped", dropped:% = dropped; "{dropped} lines were dropped");
+    note_text(log, output);
+    let _written = output.flush();
 }
 
 /// Writes texts as they come, until nobody sends any more, and how many lines were dropped, once nothing waits any more.
@@ -160,8 +163,7 @@ pub(crate) fn write_texts<R: Wait + Clock, W: Write, E: Write>(
         match texts.recv(rt) {
             Ok(text) => {
                 write_text(&text, output);
-                // Where there is no memory for the line it is lost.
-                let _told = tell_dropped(heads, backlog.written(), output);
+                tell_dropped(heads, backlog.written(), output);
             }
             Err(_all_ended) => return,
         }

@@ -5,7 +5,7 @@ use crate::node;
 use crate::places::{is_alone, is_decimal, place_of, source_of};
 use crate::stay::serve_call;
 use clap::ArgMatches;
-use hk_cli_calls::{Alone, Bodies, Call, Limits, NodeCall, NodePlace, Order, OutputForm};
+use hk_cli_calls::{Alone, Bodies, Call, Kept, Limits, NodeCall, NodePlace, Order, OutputForm};
 use hk_cli_reasons::number_named;
 use hk_model::Query;
 use hk_types::{Config, Key, Table, Tag, Time};
@@ -86,6 +86,7 @@ fn limits_of(matches: &ArgMatches<'_>, reply: u64) -> Limits {
     Limits {
         connect_seconds: connect_seconds.unwrap_or(CONNECT_SECONDS),
         reply_seconds: reply_seconds.unwrap_or(reply),
+        read_rate: 0,
     }
 }
 
@@ -234,6 +235,7 @@ fn push_order(matches: &ArgMatches<'_>) -> Order {
 fn save_order(matches: &ArgMatches<'_>) -> Order {
     Order::Save {
         form: whole_form_of(matches),
+        is_plain: has_flag(matches, "plain"),
     }
 }
 
@@ -294,7 +296,13 @@ fn save_call<'a>(matches: &ArgMatches<'a>, named: Option<&'a str>) -> Option<Cal
         order: save_order(matches),
     };
     match matches.get_str("out") {
-        Some(name) => Some(Call::Into(call, name)),
+        Some(name) => Some(Call::Into(
+            call,
+            Kept {
+                name,
+                is_forced: has_flag(matches, "force"),
+            },
+        )),
         None => Some(Call::Node(call)),
     }
 }

@@ -18,8 +18,12 @@ pub(crate) enum WordFlaw {
     Source,
     /// This one of `--from` of a node names none, or is one too many.
     Sources,
+    /// This one of `--load` is one too many.
+    Files,
     /// That of `--link-bytes` is no number of bytes and no share of the memory.
     Chunks,
+    /// That of `--log-format` is no form of lines.
+    Format,
     /// That of `--address` is no IP address.
     Listening,
     /// No refusal has this number or name.
@@ -61,9 +65,11 @@ fn words_behind(flaw: WordFlaw) -> &'static str {
         WordFlaw::Sources => {
             " for '--from <NODE>': up to 8 nodes are wanted; a port is 1 to 65535; "
         }
+        WordFlaw::Files => " for '--load <FILE>': up to 8 files are wanted",
         WordFlaw::Chunks => {
             " for '--link-bytes <BYTES>': a number of bytes is wanted, or 1% to 100% of the memory"
         }
+        WordFlaw::Format => " for '--log-format <FORMAT>': text or json is wanted",
         WordFlaw::Listening => {
             " for '--address <A>': an IP address is wanted, as 127.0.0.1, 0.0.0.0 or ::1"
         }

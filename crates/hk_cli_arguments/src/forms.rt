@@ -313,6 +313,7 @@ fn words_of_serving(form: CommandForm) -> &'static [Word] {
         CommandForm::Node => &[
             Word::Sources,
             Word::Load,
+            Word::LoadOrEmpty,
             Word::NeedData,
             Word::NoGuard,
             Word::PartsBytes,
@@ -321,6 +322,7 @@ fn words_of_serving(form: CommandForm) -> &'static [Word] {
             Word::Listening,
             Word::Quiet,
             Word::Verbose,
+            Word::LogFormat,
         ],
         _other => &[],
     }
@@ -333,7 +335,13 @@ pub(crate) fn words_of(form: CommandForm) -> &'static [Word] {
         CommandForm::Ask => &[Word::Address, Word::Json, Word::Wait],
         CommandForm::Front => &[Word::Address, Word::Json],
         CommandForm::Status => &[Word::Address, Word::Json, Word::Stats, Word::Tables],
-        CommandForm::Save => &[Word::Address, Word::Json, Word::Out],
+        CommandForm::Save => &[
+            Word::Address,
+            Word::Json,
+            Word::Out,
+            Word::Plain,
+            Word::Force,
+        ],
         CommandForm::Pull => &[Word::Address, Word::From],
         CommandForm::Shell => &[Word::Address, Word::Text, Word::Hex],
         CommandForm::Push | CommandForm::Feed | CommandForm::Load | CommandForm::Prune => {

@@ -8,7 +8,7 @@ use crate::stay::{
     stay_checked,
 };
 use clap::ArgMatches;
-use hk_cli_calls::{Call, MOST_SOURCES, NodePlace, PartsLimit, Start, Stay};
+use hk_cli_calls::{Call, MOST_FILES, MOST_SOURCES, NodePlace, PartsLimit, Start, Stay};
 
 /// The port that is opened by default.
 const PORT: u16 = 7_420;
@@ -93,10 +93,58 @@ fn sources_of<'a>(matches: &ArgMatches<'a>) -> Sources<'a> {
     sources
 }
 
-/// Whether what a node begins with, and what it keeps for snapshots in chunks, is written as these are.
-pub(crate) fn start_checked<'a>(matches: &ArgMatches<'a>) -> Result<(), Flaw<'a>> {
-    if let Some(word) = sources_of(matches).bad {
-        return Err(Flaw::Word(word, WordFlaw::Sources));
+/// The files that the words name, in their order, and how many they are.
+#[derive(Clone, Copy)]
+struct Files<'a> {
+    names: [Option<&'a str>; MOST_FILES],
+    count: usize,
+    /// The first that is one too many.
+    bad: Option<&'a str>,
+}
+
+impl<'a> Files<'a> {
+    /// Adds the file of this name.
+    fn add(&mut self, name: &'a str) {
+        let count = self.count;
+        self.count = count.saturating_add(1);
+        match self.names.get_mut(count) {
+            Some(free) => *free = Some(name),
+            None => self.bad = self.bad.or(Some(name)),
+        }
+    }
+}
+
+/// The files of which one is taken.
+fn files_of<'a>(matches: &ArgMatches<'a>) -> Files<'a> {
+    let mut files = Files {
+        names: [None; MOST_FILES],
+        count: 0,
+        bad: None,
+    };
+    if let Some(names) = matches.get_strs("load") {
+        for name in names {
+            files.add(name);
+        }
+    }
+    files
+}
+
+/// Whether the lines on standard error are JSON, where the word that is given for their form is one.
+fn is_json(matches: &ArgMatches<'_>) -> Option<bool> {
+    match matches.get_str("log-format") {
+        None | Some("text") => Some(false),
+        Some("json") => Some(true),
+        _other => None,
+    }
+}
+
+/// Whether the form of the lines, and what a node keeps for snapshots in chunks, is written as these are.
+fn forms_checked<'a>(matches: &ArgMatches<'a>) -> Result<(), Flaw<'a>> {
+    match matches.get_str("log-format") {
+        Some(word) if is_json(matches).is_none() => {
+            return Err(Flaw::Word(word, WordFlaw::Format));
+        }
+        _format => {}
     }
     match matches.get_str("link-bytes") {
         Some(word) if limit_named(word).is_none() => Err(Flaw::Word(word, WordFlaw::Chunks)),
@@ -104,12 +152,25 @@ pub(crate) fn start_checked<'a>(matches: &ArgMatches<'a>) -> Result<(), Flaw<'a>
     }
 }
 
+/// Whether what a node begins with, and the forms of its options, are written as these are.
+pub(crate) fn start_checked<'a>(matches: &ArgMatches<'a>) -> Result<(), Flaw<'a>> {
+    if let Some(word) = sources_of(matches).bad {
+        return Err(Flaw::Word(word, WordFlaw::Sources));
+    }
+    if let Some(word) = files_of(matches).bad {
+        return Err(Flaw::Word(word, WordFlaw::Files));
+    }
+    forms_checked(matches)
+}
+
 /// What it begins with.
 fn start_of<'a>(matches: &ArgMatches<'a>) -> Start<'a> {
     Start {
-        file: matches.get_str("load"),
+        files: files_of(matches).names,
+        may_lack_file: has_flag(matches, "load-or-empty"),
         sources: sources_of(matches).places,
         needs_data: has_flag(matches, "need-data"),
+        read_rate: read_rate_of(matches, READ_RATE),
     }
 }
 
@@ -133,6 +194,7 @@ pub(crate) fn node_call<'a>(matches: &ArgMatches<'a>) -> Option<Call<'a>> {
         parts: limit_of(matches),
         level: level_of(matches),
         report_changes: report_changes_of(matches),
+        in_json: is_json(matches).unwrap_or(false),
         start: Some(start_of(matches)),
     };
     Some(Call::Stay(config_of(matches)?, stay))

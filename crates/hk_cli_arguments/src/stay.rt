@@ -117,6 +117,7 @@ fn stay_call<'a>(matches: &ArgMatches<'a>) -> Option<Call<'a>> {
         parts: parts_bytes_of(matches).map(PartsLimit::Bytes),
         level: level_of(matches),
         report_changes: report_changes_of(matches),
+        in_json: false,
         start: None,
     };
     Some(Call::Stay(config, stay))

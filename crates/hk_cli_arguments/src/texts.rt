@@ -149,14 +149,16 @@ pub(crate) const SAVE_ABOUT: &str = "Write a full snapshot of a node, for 'hkrep
 
 pub(crate) const SAVE_EXAMPLE: &str = "Example:
   hkrep save --port 7426 > whole.bin
-writes one frame. With --json it prints a line of the head and one of each version. With --out FILE the file is whole, or as it was:
+writes one frame, or those of its chunks, and then one with their checksum, by which 'hkrep load' sees that it is corrupt; --plain leaves that out. With --json it prints a line of the head and one of each version. With --out FILE the file is whole, or as it was, \
+and what it had before is in FILE.1. Where the node has nothing and FILE has something it stays, and the status is 3, unless --force is given:
   hkrep save --port 7426 --out whole.bin";
 
 pub(crate) const LOAD_ABOUT: &str = "Send what 'hkrep save' wrote to a node";
 
 pub(crate) const LOAD_EXAMPLE: &str = "Example:
   hkrep load --port 7426 < whole.bin
-prints 'done' and the number of the node's operation.";
+prints 'done' and the number of the node's operation. A fragment is joined once its checksum was read and is right; one that is wrong is \
+refused 6, and standard error says where. A file without one, as of --plain, is joined too, and a line says that.";
 
 pub(crate) const PULL_ABOUT: &str = "Copy missing data from another node";
 
@@ -244,12 +246,14 @@ pub(crate) const NODE_LONG_ABOUT: &str =
     "Start a node that runs until it is ended, on port 7420 of 127.0.0.1, with what another node or a file has.
 
 It is guarded: a change that conflicts is refused 23 and changes nothing. It answers messages of both versions. Before it listens it takes \
-what a file of 'hkrep save --out' has, and then what the first node that answers has above that. Each is taken whole or not at all, and \
-standard error says what came of it; where neither can be had it begins empty, or ends with status 1 where --need-data is given.
+what a file of 'hkrep save --out' has, of several the first that is whole, and then what the first node that answers has above that. Each is \
+taken whole or not at all, and standard error says what came of it. Where a file is there and none is whole, it ends with status 1, or goes \
+on without one where --load-or-empty is given; where nothing can be had it begins empty, or ends with status 1 where --need-data is given.
 
 Standard output has one line, of what it opened. Standard error has a line for each connection that opens or ends, and for each change \
 that is refused: the time in UTC, info, warn or error, the peer's address, and what happened. No connection waits where nobody reads \
-these lines: what finds no room is dropped, and counted.
+these lines: what finds no room is dropped, and counted. Of one kind of line and one port at most 10 are printed in a second, and then \
+how many more there were. With --log-format json each line is an object (docs/FORMATS.md).
 
 NOTHING IS ENCRYPTED OR AUTHENTICATED: whoever reaches the port may write (docs/SECURITY.md).";
 
@@ -257,5 +261,5 @@ pub(crate) const NODE_EXAMPLE: &str = "Example, a node, and a file with what it 
   hkrep node --log 7 --streams 1 --port 7426 &
   hkrep feed --port 7426 < examples/first.bin
   hkrep save --port 7426 --out whole.bin
-A node that begins with what that had, and what another node has above it:
-  hkrep node --log 7 --streams 1 --port 7426 --load whole.bin --from 7427 &";
+A node that begins with what that had, or what it had before, and what another node has above it:
+  hkrep node --log 7 --streams 1 --port 7426 --load whole.bin --load whole.bin.1 --from 7427 &";

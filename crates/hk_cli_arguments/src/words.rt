@@ -9,6 +9,8 @@ pub(crate) enum Word {
     Address,
     Items,
     Out,
+    Plain,
+    Force,
     From,
     Refusal,
     Text,
@@ -25,6 +27,7 @@ pub(crate) enum Word {
     StayReadSocket,
     Sources,
     Load,
+    LoadOrEmpty,
     NeedData,
     NoGuard,
     PartsBytes,
@@ -33,6 +36,7 @@ pub(crate) enum Word {
     Listening,
     Quiet,
     Verbose,
+    LogFormat,
 }
 
 /// The name that an option of a node that is started is read back by.
@@ -43,11 +47,13 @@ fn name_of_serving(word: Word) -> &'static str {
         Word::Quiet | Word::StayQuiet => "quiet",
         Word::Verbose | Word::StayVerbose => "verbose",
         Word::Load => "load",
+        Word::LoadOrEmpty => "load-or-empty",
         Word::NeedData => "need-data",
         Word::NoGuard => "no-guard",
         Word::PartsBytes => "link-bytes",
         Word::Socket | Word::StaySocket => "socket",
         Word::ReadSocket | Word::StayReadSocket => "read-socket",
+        Word::LogFormat => "log-format",
         _listening => "address",
     }
 }
@@ -59,6 +65,8 @@ fn name_of(word: Word) -> &'static str {
         Word::Address => "node",
         Word::Items => "items",
         Word::Out => "out",
+        Word::Plain => "plain",
+        Word::Force => "force",
         Word::From | Word::Sources => "from",
         Word::Refusal => "refusal",
         Word::Text => "text",
@@ -81,6 +89,7 @@ fn value_of(word: Word) -> &'static str {
         Word::PartsBytes => "BYTES",
         Word::Socket | Word::ReadSocket | Word::StaySocket | Word::StayReadSocket => "PATH",
         Word::Listening | Word::StayListening => "A",
+        Word::LogFormat => "FORMAT",
         _flag => "",
     }
 }
@@ -92,10 +101,17 @@ fn help_of_node(word: Word) -> &'static str {
             "Begin with what this node has: PORT, HOST:PORT or unix:PATH. More than one, also with commas: the first that answers"
         }
         Word::Load => {
-            "Begin with what this file has, which 'hkrep save' wrote, before what --from has above it"
+            "Begin with what this file has, which 'hkrep save' wrote, before what --from has above it. More than one: the first that is whole; \
+where one is there and none is whole, end with status 1"
+        }
+        Word::LoadOrEmpty => {
+            "Begin without a file where one of --load is there and none is whole"
         }
         Word::NeedData => "End with status 1 where there is neither a file nor another node",
         Word::NoGuard => "Don't test changes first: a conflict makes the node fail",
+        Word::LogFormat => {
+            "How the lines on standard error are written: text, or json, an object a line; text where it isn't given"
+        }
         Word::Socket | Word::StaySocket => {
             "Also serve as many connections over a Unix domain socket of this path; a file there that nobody listens on is replaced"
         }
@@ -138,7 +154,15 @@ where neither is given HKREP_NODE of the environment, else 127.0.0.1:7420"
         Word::Items => {
             "Also write the frames of the primary's items to this file, which is made anew"
         }
-        Word::Out => "Write to this file: all of it, synced, or it stays as it was",
+        Word::Out => {
+            "Write to this file: all of it, synced, or it stays as it was. What it had before is in FILE.1 then"
+        }
+        Word::Plain => {
+            "Leave the checksum out, as for an hkrep that doesn't know it (refused 4 behind a fragment)"
+        }
+        Word::Force => {
+            "Let a node that has nothing take the place of a file that has something, which else ends with status 3"
+        }
         Word::From => "The other node: its port on 127.0.0.1, or an address as that of --node",
         Word::Refusal => "The number or the name of a refusal",
         Word::Text => "Print bodies as text, and escape what can't be shown",
@@ -162,10 +186,10 @@ fn shape_of(word: Word) -> Shape {
     match word {
         Word::Refusal => Shape::Position,
         Word::Address | Word::Items | Word::Out | Word::From => Shape::Option,
-        Word::Load | Word::PartsBytes | Word::Listening | Word::StayListening => Shape::Option,
-        Word::Socket | Word::ReadSocket => Shape::Option,
+        Word::PartsBytes | Word::Listening | Word::StayListening => Shape::Option,
+        Word::Socket | Word::ReadSocket | Word::LogFormat => Shape::Option,
         Word::StaySocket | Word::StayReadSocket => Shape::Option,
-        Word::Sources => Shape::Options,
+        Word::Sources | Word::Load => Shape::Options,
         Word::Quiet | Word::StayQuiet => Shape::Letter('q'),
         Word::Verbose | Word::StayVerbose => Shape::Letter('v'),
         _flag => Shape::Flag,
@@ -185,6 +209,9 @@ fn need_of(word: Word) -> Need {
     match word {
         Word::From => Need::always(),
         Word::Address => Need::without(&["port"]),
+        Word::Plain => Need::without(&["json"]),
+        Word::Force => Need::with(&["out"]),
+        Word::LoadOrEmpty => Need::with(&["load"]),
         Word::Text => Need::without(&["hex"]),
         Word::Stats | Word::Tables => Need::without(&["log"]),
         Word::Verbose => Need::without(&["quiet"]),

@@ -57,6 +57,14 @@ pub enum Alone {
     Rewrite,
 }
 
+/// The file that a full snapshot is written to.
+#[derive(Clone, Copy)]
+pub struct Kept<'a> {
+    pub name: &'a str,
+    /// Whether that of a node that has nothing takes the place of a file that has something.
+    pub is_forced: bool,
+}
+
 /// What the program is asked to do.
 #[derive(Clone, Copy)]
 pub enum Call<'a> {
@@ -80,6 +88,6 @@ pub enum Call<'a> {
     Stay(Config, Stay<'a>),
     /// Have a node that runs do something.
     Node(NodeCall<'a>),
-    /// The same, and write what it prints into a file of this name: all of it, or the file stays as it is.
-    Into(NodeCall<'a>, &'a str),
+    /// The same, and write what it prints into a file: all of it, or the file stays as it is.
+    Into(NodeCall<'a>, Kept<'a>),
 }

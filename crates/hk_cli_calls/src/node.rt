@@ -56,9 +56,10 @@ pub enum Order {
         form: OutputForm,
     },
     /// To return a full snapshot: in bytes, the frame of a request that gives it to a node, or those of its chunks where one
-    /// message has no room for it; or lines of JSON.
+    /// message has no room for it, and behind them that of their checksum unless it is plain; or lines of JSON.
     Save {
         form: OutputForm,
+        is_plain: bool,
     },
     /// To join the fragments of the input, in one message or in chunks, as `Save` writes them in bytes.
     Load,
@@ -82,7 +83,7 @@ impl Order {
     pub fn form(&self) -> OutputForm {
         match self {
             Order::Ask { form, .. } | Order::Front { form, .. } => *form,
-            Order::Status { form, .. } | Order::Save { form } => *form,
+            Order::Status { form, .. } | Order::Save { form, .. } => *form,
             Order::Push { .. } | Order::Shell { .. } | Order::Load => OutputForm::Lines,
             Order::Pull | Order::Prune { .. } | Order::Feed { .. } => OutputForm::Lines,
         }
@@ -92,10 +93,13 @@ impl Order {
 /// How long a command waits for a node.
 #[derive(Clone, Copy)]
 pub struct Limits {
-    /// For how many seconds it tries again to connect where nobody listens; 0: it tries once.
+    /// For how many seconds it tries again to connect where nobody listens, and waits for an address that doesn't answer; 0: it tries
+    /// once, and waits for three.
     pub connect_seconds: u64,
     /// For how many seconds it waits until a byte of a reply comes, or one of a request goes; 0: without a limit.
     pub reply_seconds: u64,
+    /// How many bytes a second have to have come of a reply that isn't complete 30 seconds after it began; 0: without a limit.
+    pub read_rate: u64,
 }
 
 /// What the node at a place is asked to do.

@@ -35,15 +35,22 @@ pub enum PartsLimit {
 /// The most nodes of which one takes what it begins with.
 pub const MOST_SOURCES: usize = 8;
 
+/// The most files of which one is taken.
+pub const MOST_FILES: usize = 8;
+
 /// What `node` has before it listens.
 #[derive(Clone, Copy)]
 pub struct Start<'a> {
-    /// The name of a file that `save` wrote, if what it has is taken first.
-    pub file: Option<&'a str>,
+    /// The names of files that `save` wrote: what the first that is whole has is taken first. Those that there are come first.
+    pub files: [Option<&'a str>; MOST_FILES],
+    /// Whether the node begins without a file where one is there and none is whole; else the program ends.
+    pub may_lack_file: bool,
     /// Nodes: what the first that answers has above that is taken next. Those that there are come first.
     pub sources: [Option<NodePlace<'a>>; MOST_SOURCES],
     /// Whether the program ends where neither can be had.
     pub needs_data: bool,
+    /// How many bytes a second have to have come of another node's reply that isn't complete 30 seconds after it began; 0 is no limit.
+    pub read_rate: u64,
 }
 
 /// How a long-running node serves its connections.
@@ -82,6 +89,8 @@ pub struct Stay<'a> {
     pub level: Level,
     /// After how many changes the node's front is printed each time; 0 is never.
     pub report_changes: u64,
+    /// Whether its lines on standard error are JSON.
+    pub in_json: bool,
     /// What it has before it listens, as `node`: it prints one line of what it opened, and its other lines have the time, how grave
     /// they are, and the peer's address. None as `serve --stay`.
     pub start: Option<Start<'a>>,

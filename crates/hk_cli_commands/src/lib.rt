@@ -14,6 +14,7 @@ mod output;
 mod rewrite;
 mod script;
 mod status;
+mod sum_fault;
 mod words;
 mod world;
 

@@ -108,6 +108,10 @@ pub(crate) fn put_fault(
             out,
             "refused 91: {address} listens, and sent no reply for {seconds} s; its connections may all be taken, or it is stopped: see its lines, or give --reply-seconds more"
         ),
+        LinkFault::Slow(rate) => writeln!(
+            out,
+            "refused 91: {address} sends fewer than {rate} bytes a second, for half a minute; name another node, or give --read-rate less"
+        ),
         LinkFault::NoNode(peer, why) => {
             let number = why.number();
             let words = words_of(*peer);

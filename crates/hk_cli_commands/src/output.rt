@@ -6,14 +6,16 @@ use crate::flaw::{Flaw, put_bad_line};
 use crate::json::{LineFault, put_bad_item};
 use crate::link_fault::{put_fault, put_node, put_unconnected};
 use crate::status::put_streams;
+use crate::sum_fault::put_sum_fault;
 use hk_cli_calls::{NodePlace, OutputForm};
 use hk_cli_input::{LinkFault, Stop};
 use hk_cli_json::InJson;
 use hk_cli_lines::Printed;
 use hk_cli_reasons::{Origin, Place, RequestContext, put_known, put_reason};
+use hk_cli_sums::SumFault;
 use hk_marks::Got;
 use hk_model::{Front, Told};
-use hk_types::Refusal;
+use hk_types::{FormFault, Refusal};
 use std::alloc::{AllocError, Global};
 use std::io;
 use std::io::Write;
@@ -208,6 +210,13 @@ impl<'a, W: Write, E: Write> Output<'a, W, E> {
         self.keep_reason(made);
     }
 
+    /// Adds in words that a checksum in the input is wrong. Cost: O(1).
+    fn tell_sum(&mut self, fault: &SumFault) {
+        self.next.clear();
+        let made = put_sum_fault(fault, &mut self.next);
+        self.keep_reason(made);
+    }
+
     /// Adds in words that the input can't be read. Cost: O(1).
     fn tell_input(&mut self, code: i32) {
         self.next.clear();
@@ -357,6 +366,7 @@ impl<'a, W: Write, E: Write> Output<'a, W, E> {
             }
             Stop::Link(fault, place) => self.tell_link(fault, *place),
             Stop::InputFault(code) => self.tell_input(*code),
+            Stop::Sum(fault) => self.tell_sum(fault),
             Stop::ItemsFault => self.say(NO_ITEMS),
             Stop::EmptyInput => self.say(NO_INPUT),
             Stop::WriteFault => self.say_no_output(),
@@ -372,6 +382,7 @@ impl<'a, W: Write, E: Write> Output<'a, W, E> {
             Stop::BadCommand(line) => self.print_bad(*line),
             Stop::WriteFault | Stop::ItemsFault | Stop::EmptyInput | Stop::Quit => Ok(()),
             Stop::Link(fault, _) => self.print_link(fault, stop.device_number()),
+            Stop::Sum(_) => self.print_refusal(&Refusal::Form(FormFault::BadNumber)),
             other => self.print_number(other.device_number()),
         }
     }

@@ -28,6 +28,7 @@ word_of_process name =
     else if name == 10 then codes "reserved"
     else if name == 11 then codes "memory"
     else if name == 20 then codes "program"
+    else if name == 22 then codes "memory_limit"
     else word_of_content name
 
 -- the same with those of its connections: all

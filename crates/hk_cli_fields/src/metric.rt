@@ -35,6 +35,7 @@ fn word_of_process(name: u16) -> &'static str
         names::RESERVED => "reserved",
         names::MEMORY => "memory",
         names::PROGRAM => "program",
+        names::MEMORY_LIMIT => "memory_limit",
         other => word_of_content(other),
     }
 }

@@ -121,7 +121,7 @@ pub fn kind_at_head(piece: &[u8]) -> u8
 /// What was asked where the first frame of an input has this kind, and is no item.
 fn asked_at_head(kind: u8) -> RequestContext {
     match kind {
-        16..=23 | 48..=58 => RequestContext::RequestsAsItems,
+        16..=23 | 48..=61 => RequestContext::RequestsAsItems,
         _other => RequestContext::Nothing,
     }
 }

@@ -6,6 +6,7 @@ ghost use Rattle.hk_cli_input.specs.declared.stop.Stop.TheVariants.{Refused};
 ghost use Rattle.hk_cli_input.specs.Stops.{refusal_of, device_number, placed};
 
 use hk_cli_reasons::{Origin, Place};
+use hk_cli_sums::SumFault;
 use hk_types::{FormFault, Refusal};
 use std::alloc::AllocError;
 
@@ -27,6 +28,8 @@ pub enum LinkFault {
     Cut,
     /// No byte came, or none was taken, for so many seconds.
     Late(u64),
+    /// Its reply brought fewer than so many bytes a second, for half a minute and more.
+    Slow(u64),
     /// What answers is no node; as a reply it has this fault.
     NoNode(Peer, Refusal),
     /// The node has another log than what it was sent, as far as the two are known.
@@ -63,6 +66,8 @@ pub enum Stop {
     Quit,
     /// The line of this number, counted from 1, is no command.
     BadCommand(u64),
+    /// A checksum in the input is wrong.
+    Sum(SumFault),
     /// A write failed or took no bytes, so nothing more can be printed.
     WriteFault,
     /// A write to the file of items failed or took no bytes.

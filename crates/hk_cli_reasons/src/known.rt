@@ -74,7 +74,7 @@ fn fault(number: u8) -> Option<Known> {
         4 => told(
             "BadKind",
             "the kind byte has no meaning there",
-            "fix the sender: items have kind 1 or 2, requests 16 to 23 or 48 to 59, replies 32 to 36 or 64 to 74",
+            "fix the sender: items have kind 1 or 2, requests 16 to 23 or 48 to 61, replies 32 to 36 or 64 to 76",
         ),
         5 => told(
             "BadStream",
@@ -155,7 +155,7 @@ the oldest readable time and the marks that a sender states",
         26 => told(
             "NotYet {readable}",
             "a time above the resolved time",
-            "feed the marks of all streams, or ask at the resolved time",
+            "ask at the resolved time, or wait for the time (--wait, node.wait); who feeds: send the marks of all streams",
         ),
         _none => None,
     }

@@ -78,17 +78,28 @@ fn put_asked(asked: RequestContext, refusal: &Refusal, out: &mut String) -> Resu
     }
 }
 
+/// What to do where a time can't be read yet: to who asks a node that runs, and to who feeds.
+fn put_not_yet(place: Place, readable: Time, out: &mut String) -> Result<(), AllocError> {
+    match place {
+        Place::Request(_) => {
+            write!(
+                out,
+                "the node can be read up to {readable}: ask there, or wait with --wait"
+            )
+        }
+        _fed => write!(out, "feed the marks of all streams, or ask at {readable}"),
+    }
+}
+
 /// What to do, with the numbers that the refusal names.
-fn put_own_advice(refusal: &Refusal, out: &mut String) -> Result<(), AllocError> {
+fn put_own_advice(place: Place, refusal: &Refusal, out: &mut String) -> Result<(), AllocError> {
     match refusal {
         Refusal::Gap { readable, .. } => {
             write!(out, "ask for a delta since {readable}, or for a snapshot")
         }
         Refusal::AheadOfMark { readable } => write!(out, "prune to {readable} at most"),
         Refusal::TooOld { horizon } => write!(out, "ask at {horizon} or later"),
-        Refusal::NotYet { readable } => {
-            write!(out, "feed the marks of all streams, or ask at {readable}")
-        }
+        Refusal::NotYet { readable } => put_not_yet(place, *readable, out),
         Refusal::Held { reader, .. } => {
             write!(out, "wait until reader {reader} releases its pin")
         }
@@ -100,15 +111,11 @@ fn put_own_advice(refusal: &Refusal, out: &mut String) -> Result<(), AllocError>
 }
 
 /// What to do.
-fn put_advice(
-    asked: RequestContext,
-    refusal: &Refusal,
-    out: &mut String,
-) -> Result<(), AllocError> {
-    match asked {
+fn put_advice(origin: Origin, refusal: &Refusal, out: &mut String) -> Result<(), AllocError> {
+    match origin.asked {
         RequestContext::RequestsAsItems => out.push_str(LOAD_INSTEAD),
         RequestContext::ItemsAsRequests => out.push_str(FEED_INSTEAD),
-        _other => put_own_advice(refusal, out),
+        _other => put_own_advice(origin.place, refusal, out),
     }
 }
 
@@ -120,7 +127,7 @@ pub fn put_reason(origin: Origin, refusal: &Refusal, out: &mut String) -> Result
     write!(out, "refused {number}: ")?;
     put_asked(origin.asked, refusal, out)?;
     write!(out, "{refusal}; ")?;
-    put_advice(origin.asked, refusal, out)?;
+    put_advice(origin, refusal, out)?;
     out.push('\n')
 }
 

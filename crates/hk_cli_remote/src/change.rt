@@ -2,7 +2,7 @@
 
 use crate::link::{Link, unasked};
 use crate::order::Terminal;
-use crate::parts::{Parts, TOO_LONG, hand_parts, is_too_long, taking};
+use crate::parts::{Parts, hand_parts, is_too_long, taking};
 use crate::read::{front_at, send_parts, send_request};
 use crate::stream::opened;
 use hk_cli_calls::{Limits, NodeCall, NodePlace};
@@ -49,14 +49,19 @@ fn is_of_base(why: &Refusal) -> bool {
 enum Handed {
     /// A fragment, as the request that passes it on.
     Frame(Request),
-    /// A fragment since a time for which a message has no room, as the request from there was refused.
-    Long(Time, Origin),
+    /// A fragment since a time that isn't to be had in one message, as the request from there was refused so.
+    Long(Time, Refusal, Origin),
 }
 
-/// A full snapshot that was refused since a message has no room for it; any other refusal stops the command.
+/// Whether a fragment was refused as one message, and may be had in chunks: a message, or the node, has no room for all of it at once.
+fn is_for_chunks(why: &Refusal) -> bool {
+    is_too_long(why) || matches!(why, Refusal::Memory)
+}
+
+/// A full snapshot that was refused since there is no room for it at once; any other refusal stops the command.
 fn long_whole(why: Refusal, origin: Origin) -> Result<Handed, Stop> {
-    if is_too_long(&why) {
-        return Ok(Handed::Long(Time::zero(), origin));
+    if is_for_chunks(&why) {
+        return Ok(Handed::Long(Time::zero(), why, origin));
     }
     Err(Stop::RefusedAt(why, origin))
 }
@@ -74,10 +79,11 @@ fn whole_after(from: &mut Link, base: Time, why: Refusal) -> Result<Handed, Stop
     }
 }
 
-/// What a node returns that refused a delta: the same in chunks where a message has no room for it, or its full snapshot.
+/// What a node returns that refused a delta: the same in chunks where there is no room for it at once, or its full snapshot.
 fn without_delta(from: &mut Link, base: Time, why: Refusal) -> Result<Handed, Stop> {
-    if is_too_long(&why) {
-        return Ok(Handed::Long(base, from.origin(RequestContext::At(base))));
+    if is_for_chunks(&why) {
+        let origin = from.origin(RequestContext::At(base));
+        return Ok(Handed::Long(base, why, origin));
     }
     whole_after(from, base, why)
 }
@@ -130,11 +136,11 @@ fn pull_parts<W: Write, E: Write>(
     own: &mut Link,
     other: &mut Link,
     base: Time,
-    long: Origin,
+    long: (Refusal, Origin),
     output: &mut Output<'_, W, E>,
 ) -> Result<(), Stop> {
     if !own.reads_later()? || !other.reads_later()? {
-        return Err(Stop::RefusedAt(TOO_LONG, long));
+        return Err(Stop::RefusedAt(long.0, long.1));
     }
     let request = add_parts(own, other, base)?;
     join_parts(own, request, output)
@@ -164,7 +170,7 @@ fn pull_handed<W: Write, E: Write>(
     let front = front_at(own)?;
     match handed_on(other, front.readable)? {
         Handed::Frame(request) => tell(own, request, output),
-        Handed::Long(base, long) => pull_parts(own, other, base, long, output),
+        Handed::Long(base, why, origin) => pull_parts(own, other, base, (why, origin), output),
     }
 }
 
@@ -193,7 +199,7 @@ fn send_handed<W: Write, E: Write>(
 ) -> Result<(), Stop> {
     match handed_on(other, base)? {
         Handed::Frame(request) => send_request(other.alloc(), request, output),
-        Handed::Long(base, long) => send_long(other, base, long, output),
+        Handed::Long(base, why, origin) => send_long(other, base, (why, origin), output),
     }
 }
 
@@ -201,11 +207,11 @@ fn send_handed<W: Write, E: Write>(
 fn send_long<W: Write, E: Write>(
     other: &mut Link,
     base: Time,
-    long: Origin,
+    long: (Refusal, Origin),
     output: &mut Output<'_, W, E>,
 ) -> Result<(), Stop> {
     if !other.reads_later()? {
-        return Err(Stop::RefusedAt(TOO_LONG, long));
+        return Err(Stop::RefusedAt(long.0, long.1));
     }
     send_parts(other, base, output)
 }

@@ -1,6 +1,8 @@
 //! An open connection to a node.
 
+use crate::pace::Pace;
 use crate::progress::Progress;
+use crate::reply_head::ReplyHead;
 use crate::stream::Stream;
 use hk_cli_calls::Limits;
 use hk_cli_input::{LinkFault, MOST_READS, PIECE_BYTES, Peer, Stop};
@@ -21,6 +23,10 @@ pub(crate) struct Link {
     stream: Stream,
     limits: Limits,
     progress: Progress,
+    pace: Pace,
+    /// The first bytes of the reply that is waited for, and whether its request is of version 2.
+    head: ReplyHead,
+    asks_later: bool,
     /// Whether the node is the one that is copied from.
     is_source: bool,
     feeder: ReplyFeeder,
@@ -155,6 +161,9 @@ impl Link {
             stream,
             limits,
             progress: Progress::new(terminal),
+            pace: Pace::new(limits.read_rate),
+            head: ReplyHead::new(),
+            asks_later: false,
             is_source,
             feeder: ReplyFeeder::new(alloc),
             replies: Vec::new(alloc),
@@ -199,9 +208,18 @@ impl Link {
             Refusal::Form(FormFault::TooLong | FormFault::WrongLength)
         );
         if self.is_answered || !is_length {
-            return Stop::Refused(why);
+            return Stop::Refused(self.fault_of(why));
         }
         self.fault(LinkFault::NoNode(peer, why))
+    }
+
+    /// The fault of a reply that is none: one of version 2 has no meaning where version 1 was asked, whatever else is wrong with it.
+    fn fault_of(&self, why: Refusal) -> Refusal {
+        if self.head.is_later() && !self.asks_later {
+            OTHER_VERSION
+        } else {
+            why
+        }
     }
 
     /// The origin of a refusal that answers a request, or of a fault of the connection behind it.
@@ -212,17 +230,20 @@ impl Link {
         }
     }
 
-    /// The same of a request that was not sent yet.
-    pub(crate) fn next_origin(&self, asked: RequestContext) -> Origin {
+    /// The same of a request that was not sent yet, behind so many that weren't either.
+    pub(crate) fn next_origin(&self, kept: u64, asked: RequestContext) -> Origin {
         Origin {
-            place: self.place(self.sent.saturating_add(1)),
+            place: self.place(self.sent.saturating_add(1).saturating_add(kept)),
             asked,
         }
     }
 
-    /// Begins the text of the next request.
-    fn begin(&mut self) {
+    /// Begins the text of the next request, of which its version is known.
+    fn begin(&mut self, is_later: bool) {
         self.text.clear();
+        self.asks_later = is_later;
+        self.head = ReplyHead::new();
+        self.pace.begin();
         self.sent = self.sent.saturating_add(1);
     }
 
@@ -244,12 +265,15 @@ impl Link {
             return Err(self.fault(LinkFault::Cut));
         }
         self.progress.add(count);
+        self.head.note(&self.piece[..count]);
+        let is_slow = self.pace.is_too_slow(count);
         let fed = self.feeder.feed(&self.piece[..count], &mut self.replies);
         if !self.replies.is_empty() {
             return Ok(());
         }
         let peer = peer_of(&self.piece[..count]);
         match fed {
+            Ok(()) if is_slow => Err(self.fault(LinkFault::Slow(self.pace.rate()))),
             Ok(()) => Ok(()),
             Err(why) => Err(self.malformed(why, peer)),
         }
@@ -286,7 +310,7 @@ impl Link {
 
     /// Sends a request and waits for its reply. A node that reads version 1 alone refuses a request of version 2 in version 1.
     pub(crate) fn ask(&mut self, request: &Request) -> Result<Reply, Stop> {
-        self.begin();
+        self.begin(is_later(request));
         encode_request(request, &mut self.text)?;
         self.send()?;
         self.wait()?;

@@ -6,8 +6,9 @@ use crate::change::{prune, pull};
 use crate::feed::feed;
 use crate::link::Link;
 use crate::numbers::{Numbers, tell_numbers};
-use crate::push::{Accepted, push_all};
-use crate::read::{save, tell_answer, tell_front, tell_status};
+use crate::push::{load_all, push_all};
+use crate::read::{tell_answer, tell_front, tell_status};
+use crate::save::save;
 use crate::shell::answer_lines;
 use crate::stream::opened;
 use hk_cli_calls::{NodeCall, Order, OutputForm};
@@ -64,7 +65,7 @@ fn tell<W: Write, E: Write>(
             tables,
             form,
         } => tell_all(link, *stats, *tables, *form, output),
-        Order::Save { form } => save(link, *form, output),
+        Order::Save { form, is_plain } => save(link, *form, *is_plain, output),
         Order::Prune { horizon } => prune(link, *horizon, output),
         _other => Ok(()),
     }
@@ -79,13 +80,9 @@ fn pass_on<I: Read, W: Write, E: Write>(
     output: &mut Output<'_, W, E>,
 ) -> Result<bool, Stop> {
     match order {
-        Order::Push { with_second: false } => {
-            push_all::<_, _, _, 1>(link, input, Accepted::All, output)
-        }
-        Order::Push { with_second: true } => {
-            push_all::<_, _, _, 2>(link, input, Accepted::All, output)
-        }
-        Order::Load => push_all::<_, _, _, 2>(link, input, Accepted::Fragments, output),
+        Order::Push { with_second: false } => { push_all::<_, _, _, 1>(link, input, output) }
+        Order::Push { with_second: true } => { push_all::<_, _, _, 2>(link, input, output) }
+        Order::Load => load_all(link, input, output),
         Order::Shell { bodies } => answer_lines(link, input, is_terminal, *bodies, output),
         _other => Ok(false),
     }
@@ -150,7 +147,8 @@ fn written<W: Write, E: Write>(
 /// `Push` sends a request, waits for its reply and prints it, and then sends the next; a reply that is a refusal is printed and explained,
 /// and the next request goes on, but not after a chunk that is refused. A request of version 2 is sent only where the order has it so, and
 /// else is one that can't be read: 3. `Load` does the same with fragments and chunks alone; another request is not sent, and ends it with
-/// 4. `Shell` reads lines such as `get 1 5`, `range 1 0 9 --at 5`, `front` and `status` up to `quit`, prints rows as a table, and where a
+/// 4. It keeps the request that joins a fragment back until the checksum behind it was read and is right, or until the next request or the end
+/// of the input where there is none, which a line on `errors` says at the end; one that is wrong ends it with 6. `Shell` reads lines such as `get 1 5`, `range 1 0 9 --at 5`, `front` and `status` up to `quit`, prints rows as a table, and where a
 /// terminal is the input a banner, and a prompt before each line; a line of another form is reported on `errors`, a refusal is printed and
 /// explained, and the next line goes on. `Load` and `Feed` end with the status 1 where the input is empty. Where standard error is a
 /// terminal each megabyte of a reply is counted there, in a line that is overwritten.
@@ -158,7 +156,7 @@ fn written<W: Write, E: Write>(
 /// for up to ten seconds.
 /// `Status` reads a delta since the resolved time, and is refused as too old where the node is pruned between; for the node's numbers and
 /// tables it asks by requests of version 2, and where a node doesn't know these (3, 4) `errors` says so, behind what was printed. `Save` and `Pull` send
-/// chunks of up to 8,388,608 bytes, or of one fact, where a node refuses a single message as too long and both nodes read version 2; else
+/// chunks of up to 8,388,608 bytes, or of one fact, where a node refuses a single message as too long, `Pull` also for want of room, and both nodes read version 2; else
 /// they end with 2, as it was refused. Of what goes in chunks nothing is joined before all is there. `Pull`, `Prune` and `Feed` print
 /// `done` and the number of the node's last operation; `Feed` ends at the first batch that is refused, and prints to `errors` how many
 /// items a second went, and by requests of version 2 how many of them the node didn't know.

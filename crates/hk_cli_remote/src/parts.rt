@@ -7,9 +7,6 @@ use hk_types::{FormFault, Refusal, Time, VersionKey};
 use hk_values::FragmentHead;
 use hk_wire::{LaterReply, LaterRequest};
 
-/// The refusal of what a message has no room for.
-pub(crate) const TOO_LONG: Refusal = Refusal::Form(FormFault::TooLong);
-
 /// Whether a fragment was refused since a message has no room for it.
 pub(crate) fn is_too_long(why: &Refusal) -> bool {
     matches!(why, Refusal::Form(FormFault::TooLong))

@@ -3,9 +3,11 @@
 use crate::link::{Link, asked_of, refusal_of};
 use hk_cli_commands::Output;
 use hk_cli_input::{Pieces, Stop, kind_at_head, read_pieces};
-use hk_cli_reasons::RequestContext;
+use hk_cli_reasons::{Origin, RequestContext};
+use hk_cli_sums::Summed;
 use hk_types::{FormFault, Refusal};
 use hk_wire::{LaterRequest, Reply, Request, RequestFeeder};
+use std::alloc::Global;
 use std::io::{Read, Write};
 use std::mem;
 
@@ -29,6 +31,15 @@ fn is_part(request: &Request) -> bool {
     matches!(request, Request::Later(LaterRequest::AddPart(_)))
 }
 
+/// Whether a request has a node join a fragment: one that is loaded is kept back until its checksum is known.
+fn is_join(request: &Request) -> bool {
+    is_fragment(request) && !is_part(request)
+}
+
+/// The line where an input ends behind a fragment that has no checksum.
+const NO_CHECKSUM: &str =
+    "the input has no checksum behind its last fragment, so corrupt bytes may not show; 'hkrep save' writes one\n";
+
 /// Which requests are sent.
 #[derive(Clone, Copy)]
 pub(crate) enum Accepted {
@@ -42,9 +53,11 @@ fn is_accepted(accepted: Accepted, request: &Request) -> bool {
     matches!(accepted, Accepted::All) || is_fragment(request)
 }
 
-/// Prints why a reply refuses its request, and returns whether it does. It stops at a chunk that is refused.
+/// Prints why a reply refuses its request, and returns whether it does. It stops at a chunk that is refused. Where fragments alone are sent
+/// the node is asked which log it has, if it has another.
 fn is_refused<W: Write, E: Write>(
     link: &mut Link,
+    accepted: Accepted,
     request: &Request,
     reply: &Reply,
     output: &mut Output<'_, W, E>,
@@ -55,7 +68,7 @@ fn is_refused<W: Write, E: Write>(
     if is_part(request) {
         return Err(Stop::RefusedAt(why, link.origin(RequestContext::Nothing)));
     }
-    if is_fragment(request) {
+    if matches!(accepted, Accepted::Fragments) {
         output.tell_stop(&link.refused(request, why));
     } else {
         output.tell(link.origin(asked_of(request)), &why);
@@ -66,11 +79,12 @@ fn is_refused<W: Write, E: Write>(
 /// Prints a reply to a request, writes what was printed, and returns whether the reply is a refusal.
 fn show<W: Write, E: Write>(
     link: &mut Link,
+    accepted: Accepted,
     request: &Request,
     reply: &Reply,
     output: &mut Output<'_, W, E>,
 ) -> Result<bool, Stop> {
-    let is_refused = is_refused(link, request, reply, output)?;
+    let is_refused = is_refused(link, accepted, request, reply, output)?;
     output.print(reply)?;
     output.flush()?;
     Ok(is_refused)
@@ -79,11 +93,12 @@ fn show<W: Write, E: Write>(
 /// Sends a request, waits for its reply and prints it, and returns whether that is a refusal.
 fn asked<W: Write, E: Write>(
     link: &mut Link,
+    accepted: Accepted,
     request: &Request,
     output: &mut Output<'_, W, E>,
 ) -> Result<bool, Stop> {
     let reply = link.ask(request)?;
-    show(link, request, &reply, output)
+    show(link, accepted, request, &reply, output)
 }
 
 /// Requests up to a version, on their way to a node.
@@ -95,6 +110,10 @@ struct Pusher<'k, 'o, 'p, W: Write, E: Write, const LATEST: u8> {
     feeder: RequestFeeder<LATEST>,
     /// Those of a read.
     requests: Vec<Request>,
+    /// The one that is kept back.
+    held: Option<Request>,
+    /// Whether chunks were sent, and not yet what joins them.
+    is_partial: bool,
     /// Whether a reply was a refusal.
     is_refused: bool,
     /// The kind of the input's first frame, once it is there.
@@ -114,21 +133,53 @@ impl<'k, 'o, 'p, W: Write, E: Write, const LATEST: u8> Pusher<'k, 'o, 'p, W, E, 
             accepted,
             feeder: RequestFeeder::new(alloc),
             requests: Vec::new(alloc),
+            held: None,
+            is_partial: false,
             is_refused: false,
             kind: 0,
         }
     }
 
-    /// Sends each request, waits for its reply and prints it, before the next. It stops at a chunk that is refused.
+    /// The origin of the next request of the input, behind the one that is kept back.
+    fn next_origin(&self, asked: RequestContext) -> Origin {
+        self.link.next_origin(self.held.is_some() as u64, asked)
+    }
+
+    /// Sends a request, waits for its reply and prints it. It stops at a chunk that is refused.
+    fn ask(&mut self, request: &Request) -> Result<(), Stop> {
+        if asked(self.link, self.accepted, request, self.output)? {
+            self.is_refused = true;
+        }
+        Ok(())
+    }
+
+    /// Sends the request that was kept back, if there is one.
+    fn ask_held(&mut self) -> Result<(), Stop> {
+        match mem::take(&mut self.held) {
+            Some(request) => self.ask(&request),
+            None => Ok(()),
+        }
+    }
+
+    /// Sends a request of the input behind the one that was kept back, or keeps it back.
+    fn pass(&mut self, request: Request) -> Result<(), Stop> {
+        if !is_accepted(self.accepted, &request) {
+            return Err(Stop::RefusedAt(BAD_KIND, self.next_origin(RequestContext::Nothing)));
+        }
+        self.ask_held()?;
+        self.is_partial = is_part(&request);
+        if matches!(self.accepted, Accepted::Fragments) && is_join(&request) {
+            self.held = Some(request);
+            return Ok(());
+        }
+        self.ask(&request)
+    }
+
+    /// Passes on each request, before the next.
     fn ask_all(&mut self) -> Result<(), Stop> {
-        for request in &self.requests {
-            if !is_accepted(self.accepted, request) {
-                let origin = self.link.next_origin(RequestContext::Nothing);
-                return Err(Stop::RefusedAt(BAD_KIND, origin));
-            }
-            if asked(self.link, request, self.output)? {
-                self.is_refused = true;
-            }
+        let alloc = self.link.alloc();
+        for request in mem::replace(&mut self.requests, Vec::new(alloc)) {
+            self.pass(request)?;
         }
         Ok(())
     }
@@ -141,7 +192,7 @@ impl<'k, 'o, 'p, W: Write, E: Write, const LATEST: u8> Pusher<'k, 'o, 'p, W, E, 
         };
         match fed {
             Ok(()) => Ok(()),
-            Err(why) => Err(Stop::RefusedAt(why, self.link.next_origin(asked))),
+            Err(why) => Err(Stop::RefusedAt(why, self.next_origin(asked))),
         }
     }
 
@@ -152,10 +203,19 @@ impl<'k, 'o, 'p, W: Write, E: Write, const LATEST: u8> Pusher<'k, 'o, 'p, W, E, 
         self.filled()
     }
 
-    /// Where nothing came and the input is to give a fragment, that it is empty.
+    /// Where nothing came and the input is to give a fragment, that it is empty; and where it ends behind chunks that nothing joins.
     fn filled(&self) -> Result<(), Stop> {
-        if self.kind == 0 && matches!(self.accepted, Accepted::Fragments) {
+        if matches!(self.accepted, Accepted::All) {
+            return Ok(());
+        }
+        if self.kind == 0 {
             return Err(Stop::EmptyInput);
+        }
+        if self.is_partial {
+            return Err(Stop::RefusedAt(
+                Refusal::Form(FormFault::Truncated),
+                self.next_origin(RequestContext::Nothing),
+            ));
         }
         Ok(())
     }
@@ -170,23 +230,53 @@ impl<W: Write, E: Write, const LATEST: u8> Pieces for Pusher<'_, '_, '_, W, E, L
         }
         let fed = self.feeder.feed(piece, &mut self.requests);
         self.ask_all()?;
-        self.requests.clear();
         self.checked(fed)
     }
 }
 
 /// Sends the requests of the input, one after the other, up to its end or to what stops them first, and returns whether a reply
-/// was a refusal. Where `accepted` is the fragments alone, another request stops them before it is sent; one of a version above
-/// `LATEST` is a bad version, which can't be read.
+/// was a refusal. One of a version above `LATEST` is a bad version, which can't be read.
 pub(crate) fn push_all<I: Read, W: Write, E: Write, const LATEST: u8>(
     link: &mut Link,
     input: &mut I,
-    accepted: Accepted,
     output: &mut Output<'_, W, E>,
 ) -> Result<bool, Stop> {
     let alloc = link.alloc();
-    let mut pusher: Pusher<'_, '_, '_, W, E, LATEST> = Pusher::new(link, output, accepted);
+    let mut pusher: Pusher<'_, '_, '_, W, E, LATEST> = Pusher::new(link, output, Accepted::All);
     read_pieces(alloc, input, &mut pusher)?;
     pusher.finish()?;
+    Ok(pusher.is_refused)
+}
+
+/// Hands the input to the pusher, and compares its checksums. Returns whether the last fragment lacks one.
+fn read_summed<I: Read, W: Write, E: Write>(
+    alloc: Global,
+    input: &mut I,
+    pusher: &mut Pusher<'_, '_, '_, W, E, 2>,
+) -> Result<bool, Stop> {
+    let mut summed = Summed::new(alloc, input)?;
+    let read = read_pieces(alloc, &mut summed, pusher);
+    if let Some(fault) = summed.fault() {
+        return Err(Stop::Sum(fault));
+    }
+    read?;
+    Ok(summed.is_open())
+}
+
+/// The same of those that give a fragment to a node; another stops them before it is sent. The one by which a node joins a fragment is
+/// kept back until the checksum behind it was read and is right, or the next request or the end of the input is there.
+pub(crate) fn load_all<I: Read, W: Write, E: Write>(
+    link: &mut Link,
+    input: &mut I,
+    output: &mut Output<'_, W, E>,
+) -> Result<bool, Stop> {
+    let alloc = link.alloc();
+    let mut pusher: Pusher<'_, '_, '_, W, E, 2> = Pusher::new(link, output, Accepted::Fragments);
+    let is_open = read_summed(alloc, input, &mut pusher)?;
+    pusher.finish()?;
+    pusher.ask_held()?;
+    if is_open {
+        pusher.output.note(NO_CHECKSUM);
+    }
     Ok(pusher.is_refused)
 }

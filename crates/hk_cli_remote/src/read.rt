@@ -1,12 +1,9 @@
-//! What reads a node: `ask`, `front`, `status` and `save`.
+//! What reads a node: `ask`, `front` and `status`; and fragments as requests.
 
 use crate::link::{Link, front_of, unasked};
-use crate::parts::{Parts, hand_parts, is_too_long, taking};
-use hk_cli_calls::OutputForm;
+use crate::parts::{Parts, hand_parts, taking};
 use hk_cli_commands::{Output, put_status};
 use hk_cli_input::Stop;
-use hk_cli_json::FragmentSummary;
-use hk_cli_reasons::RequestContext;
 use hk_fragment::Fragment;
 use hk_log::Version;
 use hk_model::{Answer, Front, Query};
@@ -29,7 +26,7 @@ pub(crate) fn front_at(link: &mut Link) -> Result<Front, Stop> {
 }
 
 /// The fragment that a request asks for.
-fn fragment_at(link: &mut Link, request: Request) -> Result<Fragment, Stop> {
+pub(crate) fn fragment_at(link: &mut Link, request: Request) -> Result<Fragment, Stop> {
     match link.given(request)? {
         Reply::Fragment(fragment) => Ok(fragment),
         _none => Err(unasked()),
@@ -169,18 +166,6 @@ pub(crate) fn send_request<W: Write, E: Write>(
     output.send(&frame)
 }
 
-/// Prints a full snapshot in JSON: its head, and a line of each version.
-fn print_whole<W: Write, E: Write>(
-    whole: &Fragment,
-    output: &mut Output<'_, W, E>,
-) -> Result<(), Stop> {
-    output.print_json(&FragmentSummary(whole))?;
-    for fact in whole.facts() {
-        output.print_json(fact)?;
-    }
-    Ok(())
-}
-
 /// Chunks on their way to an output, as the requests that give them to a node.
 #[derive(Drop)]
 struct Writer<'o, 'p, W: Write, E: Write> {
@@ -219,51 +204,4 @@ pub(crate) fn send_parts<W: Write, E: Write>(
     let mut writer = Writer::new(link.alloc(), output);
     let head = hand_parts(link, base, &mut writer)?;
     writer.send(Request::Later(taking(head)))
-}
-
-/// The same of a full snapshot that was refused, where a message has no room for it and the node reads requests of
-/// chunks. Else it stops for what was refused.
-fn send_refused<W: Write, E: Write>(
-    link: &mut Link,
-    why: Refusal,
-    output: &mut Output<'_, W, E>,
-) -> Result<(), Stop> {
-    let origin = link.origin(RequestContext::Nothing);
-    if is_too_long(&why) && link.reads_later()? {
-        return send_parts(link, Time::zero(), output);
-    }
-    Err(Stop::RefusedAt(why, origin))
-}
-
-/// Writes the node's full snapshot as the request that gives it to a node, or in chunks where a message has no room for it.
-fn save_frames<W: Write, E: Write>(
-    link: &mut Link,
-    output: &mut Output<'_, W, E>,
-) -> Result<(), Stop> {
-    let whole = link.fragment(Request::Full)?;
-    match whole {
-        Ok(whole) => send_request(link.alloc(), Request::MergeThis(whole), output),
-        Err(why) => send_refused(link, why, output),
-    }
-}
-
-/// Prints the node's full snapshot in JSON.
-fn save_lines<W: Write, E: Write>(
-    link: &mut Link,
-    output: &mut Output<'_, W, E>,
-) -> Result<(), Stop> {
-    let whole = fragment_at(link, Request::Full)?;
-    print_whole(&whole, output)
-}
-
-/// Writes the node's full snapshot.
-pub(crate) fn save<W: Write, E: Write>(
-    link: &mut Link,
-    form: OutputForm,
-    output: &mut Output<'_, W, E>,
-) -> Result<(), Stop> {
-    match form {
-        OutputForm::Json => save_lines(link, output),
-        OutputForm::Lines | OutputForm::Bytes => save_frames(link, output),
-    }
 }

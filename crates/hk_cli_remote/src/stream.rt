@@ -6,7 +6,7 @@ use hk_cli_calls::{Limits, NodePlace};
 use hk_cli_commands::{Output, is_nobody};
 use hk_cli_input::Stop;
 use std::io::{Read, Write};
-use std::net::{Ipv4Addr, Net, TcpListener, TcpStream};
+use std::net::{Ipv4Addr, Net, TcpListener, TcpStream, ToSocketAddrs};
 use std::os::unix::net::UnixStream;
 use std::rt::Clock;
 use std::time::Duration;
@@ -17,6 +17,9 @@ const TRIES_A_SECOND: u64 = 50;
 
 /// How many milliseconds it waits between two tries.
 const TRY_MILLIS: u64 = 20;
+
+/// For how many seconds it waits for an address that doesn't answer, where it tries to connect once.
+const TRY_SECONDS: u64 = 3;
 
 /// A stream to a node.
 #[derive(Drop)]
@@ -82,18 +85,38 @@ fn opened_tcp(stream: TcpStream) -> io::Result<Stream> {
     Ok(Stream::Tcp(stream))
 }
 
-/// A stream to a place; of the addresses that a name has, the first that is listened to.
+/// A stream to the first of these addresses that is listened to; each is waited for so long at most.
+fn connected_tcp<R: Net<Listener = TcpListener, Stream = TcpStream>, A: ToSocketAddrs>(
+    rt: &R,
+    addresses: A,
+    most: Duration,
+) -> io::Result<Stream> {
+    let mut last = io::Error::from(io::ErrorKind::InvalidInput);
+    for address in addresses.to_socket_addrs(rt)? {
+        match TcpStream::connect_timeout(rt, &address, most) {
+            Ok(stream) => return opened_tcp(stream),
+            Err(error) => last = error,
+        }
+    }
+    Err(last)
+}
+
+/// A stream to a place; of the addresses that a name has, the first that is listened to. (A Unix domain socket has no limit of time.)
 fn connected<R: Net<Listener = TcpListener, Stream = TcpStream>>(
     rt: &R,
     place: NodePlace<'_>,
+    most: Duration,
 ) -> io::Result<Stream> {
     match place {
-        NodePlace::Port(port) => {
-            opened_tcp(TcpStream::connect(rt, (Ipv4Addr::LOCALHOST, port))?)
-        }
-        NodePlace::Address(address) => opened_tcp(TcpStream::connect(rt, address)?),
+        NodePlace::Port(port) => connected_tcp(rt, (Ipv4Addr::LOCALHOST, port), most),
+        NodePlace::Address(address) => connected_tcp(rt, address, most),
         NodePlace::Path(path) => Ok(Stream::Unix(UnixStream::connect(rt, path)?)),
     }
+}
+
+/// For how long an address is waited for.
+fn most_of(seconds: u64) -> Duration {
+    Duration::from_secs(if seconds == 0 { TRY_SECONDS } else { seconds })
 }
 
 /// The same, tried again for so many seconds while nobody listens.
@@ -102,15 +125,16 @@ fn connected_within<R: Net<Listener = TcpListener, Stream = TcpStream> + Clock>(
     place: NodePlace<'_>,
     seconds: u64,
 ) -> io::Result<Stream> {
+    let most = most_of(seconds);
     for _ in 0..seconds.saturating_mul(TRIES_A_SECOND) {
-        match connected(rt, place) {
+        match connected(rt, place, most) {
             Err(error) if is_nobody(place, &error) => {
                 thread::sleep(rt, Duration::from_millis(TRY_MILLIS));
             }
             other => return other,
         }
     }
-    connected(rt, place)
+    connected(rt, place, most)
 }
 
 /// The same stream with these limits; 0 seconds are none.

@@ -24,6 +24,14 @@ const LONG_PAGE: u32 = 1_024;
 /// JoinParts and MergeParts.
 const LONG_KINDS: [u8; 9] = [18, 19, 21, 22, 23, 51, 52, 54, 55];
 
+/// The kind of a request that is answered once a time is readable.
+const AWAIT: u8 = 59;
+
+/// The kind of a request for the list of tables, whose frame has so many bytes behind its length.
+const TABLES: u8 = 61;
+
+const TABLES_BYTES: u64 = 2;
+
 /// The kinds of the requests that ask a query, with where it stands in the frame.
 const ASK: u8 = 20;
 
@@ -40,6 +48,21 @@ const GET: u8 = 1;
 const PAGE: u8 = 50;
 
 const PAGE_ROWS: usize = 32;
+
+const PAGE_BYTES: u64 = 32;
+
+/// How a frame is handed on beside others.
+#[derive(Clone, Copy, Debug, PartialEq, Eq)]
+pub(crate) enum Weight {
+    /// With others.
+    Light,
+    /// With those before it.
+    Last,
+    /// By itself.
+    Alone,
+    /// By another worker.
+    Elsewhere,
+}
 
 /// The length that a frame begins with.
 pub(crate) fn length_of(bytes: &[u8]) -> u64
@@ -79,8 +102,34 @@ fn is_long_page(head: &[u8]) -> bool {
     }
 }
 
+/// Whether a frame of this length that begins so is a request whose answer may take many looks, though it is short: a page, or the
+/// tables.
+fn may_look_far(kind: u8, bytes: u64) -> bool {
+    match kind {
+        PAGE => bytes == PAGE_BYTES,
+        TABLES => bytes == TABLES_BYTES,
+        _ => false,
+    }
+}
+
+/// How a frame of this length that begins so is handed on at a worker for short answers, or for long ones.
+pub(crate) fn weight_of(head: &[u8], bytes: u64, is_at_long_end: bool) -> Weight {
+    if is_long(head, bytes) {
+        return if is_at_long_end {
+            Weight::Alone
+        } else {
+            Weight::Elsewhere
+        };
+    }
+    match head.get(KIND_PLACE) {
+        Some(kind) if may_look_far(*kind, bytes) => Weight::Alone,
+        Some(kind) if *kind == AWAIT => Weight::Last,
+        _ => Weight::Light,
+    }
+}
+
 /// Whether a frame of this length that begins so asks for something that takes long.
-pub(crate) fn is_long(head: &[u8], bytes: u64) -> bool {
+fn is_long(head: &[u8], bytes: u64) -> bool {
     if bytes > LONG_FRAME {
         return bytes <= MOST_FRAME;
     }

@@ -8,5 +8,5 @@ mod frame_watch;
 mod heads;
 mod passes;
 
-pub use frame_watch::{FrameWatch, Taken};
+pub use frame_watch::{FrameWatch, Taken, Then};
 pub use passes::Passes;

@@ -1,7 +1,7 @@
 //! Which requests a port lets through.
 
 ghost use Rattle.std.specs.Prelude.{◌≡◌};
-ghost use Rattle.hk_doors.specs.Doors.{is_feeding, is_reading, is_too_long, lets_through, passes_all};
+ghost use Rattle.hk_doors.specs.Doors.{is_feeding, is_reading, is_too_long, lets_through};
 
 /// The kind bytes of the requests to apply items: Items of version 1, and Feed of version 2.
 const ITEMS: u8 = 16;
@@ -38,13 +38,6 @@ pub enum Passes {
 }
 
 impl Passes {
-    /// Whether every request passes.
-    pub fn is_all(self) -> bool
-        ensures { result ≡ passes_all self }
-    {
-        matches!(self, Passes::All)
-    }
-
     /// Whether no request that passes has so many bytes behind its length.
     pub fn is_too_long(self, bytes: u64) -> bool
         ensures { result ≡ is_too_long self bytes }

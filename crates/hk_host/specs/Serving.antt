@@ -1,29 +1,13 @@
--- What a session over a node and a seat of it does, by which the seat's list grows.
+-- What a session over a node does in both versions.
 use Rattle.std.specs.Prelude.{ℕ, List, Option}
 use Rattle.hk_session_parts.specs.declared.ended.Ended.{Ended}
 use Rattle.hk_session_parts.specs.Serving.{Serves}
 use Rattle.hk_session_parts.specs.Values.{CountedValue}
-use Rattle.hk_oplog.specs.declared.op.NodeKind.{NodeKind}
-use Rattle.hk_oplog.specs.declared.op.Op.{Op}
 use Rattle.hk_messages.specs.declared.request.Request.{Request}
 use Rattle.hk_messages.specs.declared.reply.Reply.{Reply}
 use Rattle.hk_link_state.specs.LaterReplying.{AreLetGo, MayReplyBoth}
 use Rattle.hk_link_state.specs.LinkStates.{LinkStateValue, LinkValue}
 use Rattle.hk_link_state.specs.NodeSides.{Sided}
-use Rattle.hk_seats.specs.Replying.{MayOnlyRead, MayReply}
-
--- how the session ended, and the seat's list after it
-abbrev pub Outcome : Type 0
-Outcome = Ended × List Op
-
--- a session of a host over such a node
-abbrev pub ServesNode : {R W : Type 0} → NodeKind → List Op → (R → Option (List ℕ)) → CountedValue R → CountedValue R → (W → Option (List ℕ)) → CountedValue W → CountedValue W → Outcome → Type 0
-ServesNode kind seat remaining reader reader_after contents old new result =
-    Serves 1 (MayReply kind) seat result.1 remaining reader reader_after contents old new result.0
-
--- the same of a host that only reads
-abbrev pub ServesReader : {R W : Type 0} → List Op → (R → Option (List ℕ)) → CountedValue R → CountedValue R → (W → Option (List ℕ)) → CountedValue W → CountedValue W → Outcome → Type 0
-ServesReader seat remaining reader reader_after contents old new result = Serves 1 MayOnlyRead seat result.1 remaining reader reader_after contents old new result.0
 
 -- how the session of a link ended, the host for version 1 after it, and what the next link keeps: the holds that stand
 abbrev pub LinkOutcome : Type 0 → Type 0

@@ -1,6 +1,9 @@
 //! How far a node is known to be readable, and what wakes those who wait until it is further.
 
-use hk_types::Time;
+ghost use mathlib.Core.List.{IsPrefix};
+
+use hk_node::{NodeName, ReaderSeat};
+use hk_types::{Refusal, Time};
 use mio::Waker;
 use std::alloc::{AllocError, Global};
 use std::sync::atomic::{AtomicU64, Ordering};
@@ -63,6 +66,18 @@ impl Bell {
     /// Wakes all, and lets nobody wait any more: the node failed.
     pub fn ring_for_good(&self) {
         self.ring_up_to(ALL);
+    }
+
+    /// Looks at the node by a seat, and wakes who waits for a time that is readable there; all where the node failed. Where the seat
+    /// can't look for want of memory nobody is woken. Cost: O(s) and that of `ring`, s streams.
+    pub fn ring_marks<J: NodeName>(&self, seat: &mut ReaderSeat<J>)
+        ensures { IsPrefix seat.old seat.new }
+    {
+        match seat.front() {
+            Ok(front) => self.ring(front.readable),
+            Err(Refusal::Damaged) => self.ring_for_good(),
+            Err(_no_memory) => {}
+        }
     }
 
     /// The number of the greatest time that is known to be readable, or 2^64 - 1 where the node failed.

@@ -91,6 +91,18 @@ impl<'a, J: NodeName, N: Wait + Drop, R: Threads + Wait + Sync> NodeSide for Fee
         self.inner.page(time, table, low, high, most)
     }
 
+    fn page_within(
+        &mut self,
+        time: Time,
+        table: Table,
+        low: Key,
+        high: Key,
+        most: u32,
+        looks: u64,
+    ) -> Result<Option<Page>, Refusal> {
+        self.inner.page_within(time, table, low, high, most, looks)
+    }
+
     fn marks(&mut self) -> Result<Front, Refusal> {
         self.inner.marks()
     }
@@ -109,6 +121,10 @@ impl<'a, J: NodeName, N: Wait + Drop, R: Threads + Wait + Sync> NodeSide for Fee
 
     fn tables(&mut self) -> Result<Vec<Table>, Refusal> {
         self.inner.tables()
+    }
+
+    fn tables_within(&mut self, most: u64) -> Result<Option<Vec<Table>>, Refusal> {
+        self.inner.tables_within(most)
     }
 
     fn keep_within(&mut self, room: u64) {

@@ -5,8 +5,9 @@ ghost use mathlib.Core.List.{IsPrefix};
 ghost use Rattle.hk_oplog.specs.Replay.{is_legal};
 ghost use Rattle.hk_host.specs.Pins.{ReleasesHold, TakesHold};
 
-use crate::link_events::{LinkEvent, Teller};
+use crate::link_events::Teller;
 use crate::seat_host::SeatHost;
+use crate::subject::Subject;
 use hk_node::{Hold, Node, NodeName};
 use hk_types::{Refusal, Time};
 use std::sync::Wait;
@@ -18,10 +19,15 @@ pub(crate) fn tell_changed<R: Wait>(rt: &R, teller: Option<&Teller<'_>>, ops: u6
     }
 }
 
-/// Reports that a change was refused, if there is a teller.
-pub(crate) fn tell_refused<R: Wait>(rt: &R, teller: Option<&Teller<'_>>, why: &Refusal) {
+/// Reports that a change was refused, and what it begins with, if there is a teller.
+pub(crate) fn tell_refused<R: Wait>(
+    rt: &R,
+    teller: Option<&Teller<'_>>,
+    why: &Refusal,
+    about: Option<Subject>,
+) {
     if let Some(teller) = teller {
-        teller.tell(rt, LinkEvent::Refused(why.number()));
+        teller.tell_refused(rt, why.number(), about);
     }
 }
 
@@ -44,13 +50,13 @@ pub(crate) fn hold_on<J: NodeName, N: Wait + Drop, R: Wait>(
                 Ok(hold)
             }
             Err(why) => {
-                tell_refused(rt, teller, &why);
+                tell_refused(rt, teller, &why, None);
                 Err((Some(hold), why))
             }
         },
         Err((hold, why)) => {
             let _known = reads.seat.seen();
-            tell_refused(rt, teller, &why);
+            tell_refused(rt, teller, &why, None);
             Err((hold, why))
         }
     }
@@ -75,13 +81,13 @@ pub(crate) fn release_on<J: NodeName, N: Wait + Drop, R: Wait>(
                 Ok(ops)
             }
             Err(why) => {
-                tell_refused(rt, teller, &why);
+                tell_refused(rt, teller, &why, None);
                 Err((None, why))
             }
         },
         Err((back, why)) => {
             let _known = reads.seat.seen();
-            tell_refused(rt, teller, &why);
+            tell_refused(rt, teller, &why, None);
             Err((back, why))
         }
     }

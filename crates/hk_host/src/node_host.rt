@@ -2,15 +2,13 @@
 
 ghost use Rattle.std.specs.Prelude.{◌≡◌, true};
 ghost use Rattle.std.specs.Thread.{IsSync};
-ghost use mathlib.Core.List.{IsPrefix};
-ghost use Rattle.hk_messages.specs.Replies.{reply_seen};
 ghost use Rattle.hk_oplog.specs.Replay.{is_legal};
 ghost use Rattle.hk_seats.specs.Replying.{MayReply};
-ghost use Rattle.hk_seats.specs.Telling.{GoesOnBy};
 
 use crate::holding::{hold_on, release_on, tell_changed, tell_refused};
 use crate::link_events::Teller;
 use crate::seat_host::SeatHost;
+use crate::subject::{Subject, subject_of};
 use hk_delta::Fragment;
 use hk_link::NodeSide;
 use hk_model::{Answer, Front, Page, Query, StreamsTold};
@@ -111,27 +109,12 @@ impl<'a, J: NodeName, N: Wait + Drop, R: Threads + Wait + Sync> NodeHost<'a, J, 
         self.reads.into_seat()
     }
 
-    /// Wakes who waits for a time that is readable now.
-    fn tell_marks(&mut self)
-        ensures legal { is_legal self.new ≡ true }
-        ensures seen { IsPrefix self.old self.new }
-    {
-        let marks = self.reads.marks();
-        if let Some(teller) = self.teller {
-            match marks {
-                Ok(front) => teller.bell().ring(front.readable),
-                Err(Refusal::Damaged) => teller.bell().ring_for_good(),
-                Err(_no_memory) => {}
-            }
-        }
-    }
-
-    /// Reports that a change was refused. Where that made the node fail nobody waits any more.
-    fn tell_refused(&self, why: &Refusal)
+    /// Reports that a change was refused, and what it begins with. Where that made the node fail nobody waits any more.
+    fn tell_refused(&self, why: &Refusal, about: Option<Subject>)
         ensures { is_legal self.now ≡ true }
     {
         let is_guarded = self.reads.seat.is_guarded();
-        tell_refused(self.rt, self.teller, why);
+        tell_refused(self.rt, self.teller, why, about);
         if let (Some(teller), Refusal::Conflict, false) = (self.teller, why, is_guarded) {
             if self.node.hold_refusal(self.rt, Time::zero()) == Refusal::Damaged {
                 teller.bell().ring_for_good();
@@ -139,27 +122,18 @@ impl<'a, J: NodeName, N: Wait + Drop, R: Threads + Wait + Sync> NodeHost<'a, J, 
         }
     }
 
-    /// Reports a change that took effect, so that the node's list has so many operations, and wakes who waits for a time that is readable
-    /// by it.
-    fn tell_made(&mut self, ops: u64)
-        ensures legal { is_legal self.new ≡ true }
-        ensures seen { IsPrefix self.old self.new }
-    {
-        self.tell_marks();
-        tell_changed(self.rt, self.teller, ops);
-    }
-
-    /// Reports what came of a change.
-    fn tell(&mut self, reply: &Reply)
-        ensures legal { is_legal self.new ≡ true }
-        ensures goes { GoesOnBy (reply_seen reply.now) self.old self.new }
+    /// Reports what came of a change that begins so.
+    fn tell(&self, reply: &Reply, about: Option<Subject>)
+        ensures { is_legal self.now ≡ true }
     {
         let _known = self.reads.seat.seen();
         match reply {
-            Reply::Done { ops } => self.tell_made(*ops),
-            Reply::Later(LaterReply::Fed { ops, .. }) => self.tell_made(*ops),
-            Reply::Refused(why) => self.tell_refused(why),
-            Reply::Later(LaterReply::Refused(why)) => self.tell_refused(why),
+            Reply::Done { ops } | Reply::Later(LaterReply::Fed { ops, .. }) => {
+                tell_changed(self.rt, self.teller, *ops)
+            }
+            Reply::Refused(why) | Reply::Later(LaterReply::Refused(why)) => {
+                self.tell_refused(why, about)
+            }
             _ => {}
         }
     }
@@ -172,10 +146,11 @@ impl<'a, J: NodeName, N: Wait + Drop, R: Threads + Wait + Sync> Host for NodeHos
 
     fn answer(&mut self, request: Request) -> Reply {
         let is_told = is_change(&request);
+        let about = subject_of(&request);
         let seat = &mut self.reads.seat;
         let reply = answer_at(self.rt, self.alloc, self.node, seat, request);
         if is_told {
-            self.tell(&reply);
+            self.tell(&reply, about);
         }
         reply
     }
@@ -201,6 +176,18 @@ impl<'a, J: NodeName, N: Wait + Drop, R: Threads + Wait + Sync> NodeSide for Nod
         self.reads.page(time, table, low, high, most)
     }
 
+    fn page_within(
+        &mut self,
+        time: Time,
+        table: Table,
+        low: Key,
+        high: Key,
+        most: u32,
+        looks: u64,
+    ) -> Result<Option<Page>, Refusal> {
+        self.reads.page_within(time, table, low, high, most, looks)
+    }
+
     fn marks(&mut self) -> Result<Front, Refusal> {
         self.reads.marks()
     }
@@ -219,6 +206,10 @@ impl<'a, J: NodeName, N: Wait + Drop, R: Threads + Wait + Sync> NodeSide for Nod
 
     fn tables(&mut self) -> Result<Vec<Table>, Refusal> {
         self.reads.tables()
+    }
+
+    fn tables_within(&mut self, most: u64) -> Result<Option<Vec<Table>>, Refusal> {
+        self.reads.tables_within(most)
     }
 
     fn keep_within(&mut self, room: u64) {

@@ -100,6 +100,18 @@ impl<J: NodeName> NodeSide for SeatHost<J> {
         self.seat.page(time, table, low, high, most)
     }
 
+    fn page_within(
+        &mut self,
+        time: Time,
+        table: Table,
+        low: Key,
+        high: Key,
+        most: u32,
+        looks: u64,
+    ) -> Result<Option<Page>, Refusal> {
+        self.seat.page_within(time, table, low, high, most, looks)
+    }
+
     fn marks(&mut self) -> Result<Front, Refusal> {
         self.seat.front()
     }
@@ -122,6 +134,10 @@ impl<J: NodeName> NodeSide for SeatHost<J> {
 
     fn tables(&mut self) -> Result<Vec<Table>, Refusal> {
         self.seat.tables()
+    }
+
+    fn tables_within(&mut self, most: u64) -> Result<Option<Vec<Table>>, Refusal> {
+        self.seat.tables_within(most)
     }
 
     fn keep_within(&mut self, room: u64) {

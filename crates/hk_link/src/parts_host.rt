@@ -1,11 +1,11 @@
 //! A host that speaks both versions, over a host of a node for version 1.
 
-ghost use Rattle.std.specs.Prelude.{◌≡◌, ◌<◌, true, length};
+ghost use Rattle.std.specs.Prelude.{◌≡◌, ◌<◌, true, length, IfSome, IfNone};
 ghost use mathlib.Core.List.{IsPrefix};
 ghost use Rattle.hk_fragment.specs.Heads.{of_facts};
 ghost use Rattle.hk_messages.specs.LaterReplies.{reply_seen};
 ghost use Rattle.hk_oplog.specs.Replay.{is_legal};
-ghost use Rattle.hk_link_state.specs.LaterReplying.{AreLetGo, AsksHoldInPlace, IsFirstReply, IsFull, IsHeld, IsLaterReply, IsOrMemory, IsReleased, JoinsMade, KeepsOther, LetsGo, MayReplyBoth, TellsLatest, TellsNumbers, TellsSizes, TellsTables, change_seen, content_of, latest_reply, page_reply, ready_reply, streams_reply};
+ghost use Rattle.hk_link_state.specs.LaterReplying.{AreLetGo, AsksHoldInPlace, IfTold, IsFirstReply, IsFull, IsHeld, IsLaterReply, IsOrMemory, IsReleased, JoinsMade, KeepsOther, LetsGo, MayReplyBoth, TellsLatest, TellsNumbers, TellsSizes, TellsTables, change_seen, content_of, latest_reply, page_reply, ready_reply, streams_reply};
 ghost use Rattle.hk_link_state.specs.LinkStates.{fresh_state, link_of};
 
 use hk_link_state::{LinkState, NodeSide, give, is_limited};
@@ -16,6 +16,9 @@ use hk_types::{FormFault, Key, Refusal, Table, Time};
 use hk_values::FragmentHead;
 use hk_wire::{LaterReply, LaterRequest, Reply, Request, kind_of};
 use std::marker::Model;
+
+/// At so many keys a worker looks for a short answer.
+const FEW_LOOKS: u64 = 4_096;
 
 /// A host for both versions over one for version 1, with what the connection keeps: what it sends in chunks, the chunks that came,
 /// and its pins. Contracts see it as the state of a connection.
@@ -365,6 +368,90 @@ impl<'a, H: NodeSide + Drop> PartsHost<'a, H> {
             LaterRequest::Hold { t } => self.hold(t),
             LaterRequest::Release { number } => self.release(number),
         }
+    }
+
+    /// The same page where it takes few looks.
+    fn page_briefly(
+        &mut self,
+        time: Time,
+        table: Table,
+        low: Key,
+        high: Key,
+        most: u32,
+    ) -> Option<LaterReply>
+        ensures legal { is_legal (H.side.list self.new.inner) ≡ true }
+        ensures seen { IsPrefix (H.side.list self.old.inner) (H.side.list self.new.inner) }
+        ensures same { KeepsOther self.old self.new }
+        ensures told { IfTold result
+            (IsOrMemory (page_reply (content_of H.side self.new) time table low high most)) }
+        ensures ready { H.ready self.old.inner → H.ready self.new.inner }
+    {
+        match self
+            .inner
+            .page_within(time, table, low, high, most, FEW_LOOKS)
+        {
+            Ok(Some(page)) => Some(LaterReply::Page(page)),
+            Ok(None) => None,
+            Err(why) => Some(LaterReply::Refused(why)),
+        }
+    }
+
+    /// The tables where they are few.
+    fn tables_briefly(&mut self) -> Option<LaterReply>
+        ensures legal { is_legal (H.side.list self.new.inner) ≡ true }
+        ensures seen { IsPrefix (H.side.list self.old.inner) (H.side.list self.new.inner) }
+        ensures same { KeepsOther self.old self.new }
+        ensures told { IfTold result (TellsTables (content_of H.side self.new)) }
+        ensures ready { H.ready self.old.inner → H.ready self.new.inner }
+    {
+        match self.inner.tables_within(FEW_LOOKS) {
+            Ok(Some(tables)) => Some(LaterReply::Tables(tables)),
+            Ok(None) => None,
+            Err(why) => Some(LaterReply::Refused(why)),
+        }
+    }
+
+    /// The reply to a request of version 2 for a page or for the tables, where it takes few looks.
+    fn later_briefly(&mut self, request: &LaterRequest) -> Option<LaterReply>
+        ensures told { IfSome result
+            (λ reply. IsLaterReply H.side H.may self.old request.now (reply_seen reply) self.new) }
+        ensures kept { IfNone result (KeepsOther self.old self.new) }
+        ensures seen { IsPrefix (H.side.list self.old.inner) (H.side.list self.new.inner) }
+        ensures ready { H.ready self.old.inner → H.ready self.new.inner }
+    {
+        match request {
+            LaterRequest::Page {
+                t,
+                table,
+                low,
+                high,
+                most,
+            } => self.page_briefly(*t, *table, *low, *high, *most),
+            LaterRequest::Tables => self.tables_briefly(),
+            _ => None,
+        }
+    }
+
+    /// The reply to a request for a page or for the tables, where it takes at most 4,096 looks at a key. `None` where it takes more,
+    /// of which nothing is made, and for each other request: the connection is as before then, but for what its seat has seen. Cost:
+    /// O(log n + k · log n + b), n facts, at most 4,096 keys k, b bytes of the bodies that are copied.
+    pub fn answer_briefly(&mut self, request: &Request) -> Option<Reply>
+        requires ready { H.ready self.old.inner }
+        ensures told { IfSome result
+            (λ reply. MayReplyBoth H.side H.may self.old request.now reply self.new) }
+        ensures kept { IfNone result (KeepsOther self.old self.new) }
+        ensures seen { IsPrefix (H.side.list self.old.inner) (H.side.list self.new.inner) }
+        ensures ready { H.ready self.new.inner }
+    {
+        let Request::Later(later) = request else {
+            return None;
+        };
+        let Some(told) = self.later_briefly(later) else {
+            return None;
+        };
+        let reply = Reply::Later(told);
+        self.kept.count(kind_of(request), refusal_of(&reply));
+        Some(reply)
     }
 
     /// Answers a request of either version that no peer sent: it isn't counted.

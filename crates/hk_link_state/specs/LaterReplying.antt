@@ -1,5 +1,5 @@
 -- What a host that speaks both versions may reply, over a host for version 1.
-use Rattle.std.specs.Prelude.{◌≡◌, ◌⊎◌, ℕ, ◌+◌, ◌-◌, ◌++◌, ◌∷◌, [], true, false, nat_lt, if◌then◌else◌, List, length, set, take, filter, Option, Some, None, is_some, Result, Ok, Err, IsOk, MatchOption}
+use Rattle.std.specs.Prelude.{◌≡◌, ◌⊎◌, ℕ, ◌+◌, ◌-◌, ◌++◌, ◌∷◌, [], true, false, nat_lt, if◌then◌else◌, List, length, set, take, filter, Option, Some, None, is_some, Result, Ok, Err, IsOk, IfSome, MatchOption}
 use mathlib.Core.List.{IsPrefix}
 use Rattle.hk_types.specs.declared.faults.FormFault.{FormFault}
 use Rattle.hk_types.specs.declared.faults.FormFault.TheVariants.{BadKind, BadOrder}
@@ -20,6 +20,7 @@ use Rattle.hk_messages.specs.declared.reply.Reply.TheVariants as first_told
 use Rattle.hk_messages.specs.Replies as first
 use Rattle.hk_messages.specs.declared.later_request.LaterRequest.{LaterRequest}
 use Rattle.hk_messages.specs.declared.later_request.LaterRequest.TheVariants as asked
+use Rattle.hk_messages.specs.declared.later_reply.LaterReply.{LaterReply}
 use Rattle.hk_messages.specs.LaterReplies.{ReplyValue, Done, Streams, Latest, Page, Added, Held, Ready, Stats, Tables, Refused, reply_seen}
 use Rattle.hk_oplog.specs.declared.op.Hold.{Hold}
 use Rattle.hk_oplog.specs.declared.sizes.NodeSizes.{NodeSizes}
@@ -41,6 +42,10 @@ content_of side l = replay (side.list l.inner)
 -- a reply is just this, or it says that memory ran out
 abbrev pub IsOrMemory : ReplyValue → ReplyValue → Type 0
 IsOrMemory wanted reply = (reply ≡ wanted) ⊎ (reply ≡ Refused refusals.Memory)
+
+-- where something is told, it is so
+abbrev pub IfTold : Option LaterReply → (ReplyValue → Type 0) → Type 0
+IfTold told holds = IfSome told (λ reply. holds (reply_seen reply))
 
 -- there is no room for what a link would keep: memory ran out, or all links of the node keep what they may
 abbrev pub LacksRoom : ℕ → ReplyValue → Type 0

@@ -1,6 +1,6 @@
 //! What a connection keeps beside its seat.
 
-ghost use Rattle.std.specs.Prelude.{◌≡◌, ◌<◌, ◌≤◌, ◌-◌, ◌++◌, ◌∷◌, [], true, false, Ok, IfErr, IfOk, MatchBool, OnErr, filter, length, nat_lt, take};
+ghost use Rattle.std.specs.Prelude.{◌≡◌, ◌<◌, ◌≤◌, ◌-◌, ◌++◌, ◌∷◌, [], true, false, Ok, IfErr, IfOk, MatchBool, OnErr, filter, is_some, length, nat_lt, take};
 ghost use mathlib.Core.List.{IsPrefix};
 ghost use Rattle.hk_types.specs.declared.faults.Refusal.TheVariants.{LinkFull};
 ghost use Rattle.hk_fragment.specs.Heads.{of_facts};
@@ -167,6 +167,13 @@ impl<'a> LinkState<'a> {
         ensures { IfOk result (λ metrics. IsPrefix (sizes_metrics sizes.now) metrics.items) }
     {
         all_metrics(self.alloc, sizes, self.meters)
+    }
+
+    /// Whether a fragment is sent in chunks, of which some are left. It takes no memory. Cost: O(1).
+    pub fn is_giving(&self) -> bool
+        ensures { result ≡ is_some self.now.giving }
+    {
+        self.giving.is_some()
     }
 
     /// Drops what is sent.

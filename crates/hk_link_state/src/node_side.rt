@@ -9,7 +9,7 @@ use hk_types::{Key, Refusal, Table, Time};
 /// What a host over a seat of a node offers beside the requests of version 1. Each call that reads is answered by the
 /// seat, and takes no lock.
 pub trait NodeSide: Host {
-    ghost use Rattle.std.specs.Prelude.{◌≡◌, ℕ, true, List, Option, None, Result, Err, IfOk, IfErr};
+    ghost use Rattle.std.specs.Prelude.{◌≡◌, ℕ, true, List, Option, None, Result, Err, IfOk, IfErr, IfSome};
     ghost use mathlib.Core.List.{IsPrefix};
     ghost use Rattle.hk_types.specs.declared.faults.Refusal.{Refusal};
     ghost use Rattle.hk_types.specs.declared.faults.Refusal.TheVariants.{Memory};
@@ -18,7 +18,7 @@ pub trait NodeSide: Host {
     ghost use Rattle.hk_oplog.specs.declared.op.Op.{Op};
     ghost use Rattle.hk_oplog.specs.declared.op.Hold.{Hold};
     ghost use Rattle.hk_oplog.specs.Replay.{is_legal, replay};
-    ghost use Rattle.hk_oplog.specs.Replies.{GivesOrMemory, GivesSeen, timed_seen, node_front, node_latest, node_page, node_streams};
+    ghost use Rattle.hk_oplog.specs.Replies.{GivesOrMemory, GivesPageOrNone, GivesSeen, timed_seen, node_front, node_latest, node_page, node_streams};
     ghost use Rattle.hk_link_state.specs.NodeNumbers.{AreSizesOf, AreTablesOf};
     ghost use Rattle.hk_link_state.specs.NodeSides.{GoesOn, Sided, cut_of};
 
@@ -44,6 +44,21 @@ pub trait NodeSide: Host {
         ensures legal { is_legal (side.list self.new) ≡ true }
         ensures seen { IsPrefix (side.list self.old) (side.list self.new) }
         ensures page { GivesSeen page_seen (node_page (replay (side.list self.new)) time table low high most) result }
+        ensures ready { Self.ready self.old → Self.ready self.new };
+
+    /// The same page where it takes at most so many looks at a key, else `None`. Refusals and cost: as `ReaderSeat::page_within`.
+    fn page_within(
+        &mut self,
+        time: Time,
+        table: Table,
+        low: Key,
+        high: Key,
+        most: u32,
+        looks: u64,
+    ) -> Result<Option<Page>, Refusal>
+        ensures legal { is_legal (side.list self.new) ≡ true }
+        ensures seen { IsPrefix (side.list self.old) (side.list self.new) }
+        ensures page { GivesPageOrNone (replay (side.list self.new)) time table low high most result }
         ensures ready { Self.ready self.old → Self.ready self.new };
 
     /// The node's range of readable times. Refusals and cost: as `ReaderSeat::front`.
@@ -74,6 +89,15 @@ pub trait NodeSide: Host {
         ensures legal { is_legal (side.list self.new) ≡ true }
         ensures seen { IsPrefix (side.list self.old) (side.list self.new) }
         ensures tables { IfOk result (λ tables. AreTablesOf (replay (side.list self.new)) tables.items) }
+        ensures err { IfErr result (λ why. why ≡ Memory) }
+        ensures ready { Self.ready self.old → Self.ready self.new };
+
+    /// The same where there are no more than so many tables, else `None`. The only refusal is `Memory`. Cost: as
+    /// `ReaderSeat::tables_within`.
+    fn tables_within(&mut self, most: u64) -> Result<Option<Vec<Table>>, Refusal>
+        ensures legal { is_legal (side.list self.new) ≡ true }
+        ensures seen { IsPrefix (side.list self.old) (side.list self.new) }
+        ensures tables { IfOk result (λ f. IfSome f (λ it. AreTablesOf (replay (side.list self.new)) it.items)) }
         ensures err { IfErr result (λ why. why ≡ Memory) }
         ensures ready { Self.ready self.old → Self.ready self.new };
 

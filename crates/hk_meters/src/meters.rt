@@ -48,6 +48,8 @@ pub struct Meters<'a> {
     program: u64,
     /// The system's text on the process, where it has one.
     process: Option<File>,
+    /// The bytes of address space that the process may take, where that has a limit.
+    memory_limit: Option<u64>,
     /// When the node started, and the latest time that was noted, in seconds of one clock.
     started: u64,
     now: AtomicU64,
@@ -107,14 +109,15 @@ fn memory_of(text: &str) -> Option<u64> {
 
 impl<'a> Meters<'a> {
     /// Nothing is counted yet. `shared` is the budget of all doors, or of those that don't only read where `readers` have one of their
-    /// own; `process` the system's text on the process, /proc/self/status, where it has one; `started` is in seconds of the clock that
-    /// `note_time` gets. It takes memory for a word for each kind and refusal, and three for each door.
+    /// own; `process` the system's text on the process, /proc/self/status, where it has one; `memory_limit` the bytes of address space
+    /// that it may take, where that has a limit; `started` is in seconds of the clock that `note_time` gets. It takes memory for a word for each kind and refusal, and three for each door.
     pub fn new(
         alloc: Global,
         shared: &'a PartsBudget,
         readers: Option<&'a PartsBudget>,
         program: u64,
         process: Option<File>,
+        memory_limit: Option<u64>,
         started: u64,
         doors: usize,
     ) -> Result<Meters<'a>, AllocError> {
@@ -131,6 +134,7 @@ impl<'a> Meters<'a> {
             readers,
             program,
             process,
+            memory_limit,
             started,
             now: AtomicU64::new(started),
             requests: words(alloc, KINDS)?,
@@ -224,7 +228,7 @@ impl<'a> Meters<'a> {
     }
 
     /// What was counted, by rising names and labels; a kind of which no request came is left out, and so is a refusal that never was,
-    /// and the memory where it isn't known. Cost: O(d), d doors, and that of reading the system's text on the process.
+    /// and the memory where it isn't known, and its limit where it has none. Cost: O(d), d doors, and that of reading the system's text on the process.
     pub fn collect(&self, alloc: Global) -> Result<Vec<Metric>, AllocError> {
         let mut out = Vec::new(alloc);
         let seconds = self.now.load(Ordering::SeqCst);
@@ -258,6 +262,9 @@ impl<'a> Meters<'a> {
         let failed = self.failed_accepts.load(Ordering::SeqCst);
         put(&mut out, names::FAILED_ACCEPTS, 0, failed)?;
         put(&mut out, names::PROGRAM, 0, self.program)?;
+        if let Some(bytes) = self.memory_limit {
+            put(&mut out, names::MEMORY_LIMIT, 0, bytes)?;
+        }
         Ok(out)
     }
 }

@@ -3,11 +3,11 @@
 use crate::arrivals::Arrival;
 use crate::doors::Door;
 use crate::places::Places;
+use crate::reactor::without_memory;
 use crate::shop::Shop;
 use crate::sockets::Accepted;
 use hk_host::{LinkEvent, Teller};
 use hk_node::NodeName;
-use hk_session::Ended;
 use std::rt::Clock;
 use std::sync::Wait;
 use std::thread;
@@ -52,9 +52,13 @@ fn accept_next<J: NodeName, N: Wait + Drop, R: Wait + Clock>(
     match door.listener.accept() {
         Ok((accepted, address)) => {
             shop.staff.meters.note_opened(number);
-            teller.tell(rt, LinkEvent::Opened(address));
+            let opened = LinkEvent::Opened {
+                door: number,
+                address,
+            };
+            teller.tell(rt, opened);
             if !leave(rt, shop, accepted, number, place) {
-                teller.tell(rt, LinkEvent::Ended(Ended::Memory));
+                teller.tell(rt, without_memory());
                 shop.staff.give_back(rt, number, place);
             }
         }

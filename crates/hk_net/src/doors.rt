@@ -1,9 +1,14 @@
 //! Where connections come in, what they may do, and for how long they may keep silent.
 
+ghost use Rattle.std.specs.Prelude.{◌≡◌};
+ghost use Rattle.hk_doors.specs.declared.passes.Passes.TheVariants.{All, Feeds, Readings};
+ghost use Rattle.hk_net.specs.Doors.{way_passes};
+
 use crate::sockets::Listener;
 use hk_doors::Passes;
 use hk_link::PartsBudget;
 use hk_node::{Node, NodeName};
+use std::marker::Model;
 use std::net::TcpListener;
 use std::os::unix::net::UnixListener;
 use std::sync::Wait;
@@ -21,7 +26,9 @@ pub(crate) enum Way<'a, J: NodeName, N: Wait + Drop> {
 
 impl<J: NodeName, N: Wait + Drop> Way<'_, J, N> {
     /// Which requests it lets through.
-    pub(crate) fn passes(&self) -> Passes {
+    pub(crate) fn passes(&self) -> Passes
+        ensures { result ≡ way_passes self.now }
+    {
         match self {
             Way::Open(_) => Passes::All,
             Way::Feeding(_) => Passes::Feeds,
@@ -30,7 +37,7 @@ impl<J: NodeName, N: Wait + Drop> Way<'_, J, N> {
     }
 }
 
-/// Where connections come in, what they may do, and how many of them are served at once.
+/// Where connections come in, what they may do, and how many of them are served at once. Contracts see it as which requests it lets through.
 #[derive(Drop)]
 pub struct Door<'a, J: NodeName, N: Wait + Drop> {
     pub(crate) listener: Listener<'a>,
@@ -41,13 +48,24 @@ pub struct Door<'a, J: NodeName, N: Wait + Drop> {
     pub(crate) tells_changes: bool,
 }
 
+impl<'a, J: NodeName, N: Wait + Drop> Model for Door<'a, J, N> {
+    ghost use Rattle.hk_doors.specs.declared.passes.Passes.{Passes};
+    ghost use Rattle.hk_net.specs.Doors.{way_passes};
+
+    ghost Value = { Passes };
+
+    ghost view = { λ d. way_passes d.way };
+}
+
 impl<'a, J: NodeName, N: Wait + Drop> Door<'a, J, N> {
     fn new(
         listener: Listener<'a>,
         way: Way<'a, J, N>,
         links: usize,
         budget: &'a PartsBudget,
-    ) -> Door<'a, J, N> {
+    ) -> Door<'a, J, N>
+        ensures { result ≡ way_passes way.entry }
+    {
         Door {
             listener,
             way,
@@ -65,7 +83,9 @@ impl<'a, J: NodeName, N: Wait + Drop> Door<'a, J, N> {
         node: &'a Node<J, N>,
         links: usize,
         budget: &'a PartsBudget,
-    ) -> Door<'a, J, N> {
+    ) -> Door<'a, J, N>
+        ensures { result ≡ All }
+    {
         Door::new(Listener::Tcp(listener), Way::Open(node), links, budget)
     }
 
@@ -75,7 +95,9 @@ impl<'a, J: NodeName, N: Wait + Drop> Door<'a, J, N> {
         node: &'a Node<J, N>,
         links: usize,
         budget: &'a PartsBudget,
-    ) -> Door<'a, J, N> {
+    ) -> Door<'a, J, N>
+        ensures { result ≡ All }
+    {
         Door::new(Listener::Unix(listener), Way::Open(node), links, budget)
     }
 
@@ -86,7 +108,9 @@ impl<'a, J: NodeName, N: Wait + Drop> Door<'a, J, N> {
         node: &'a Node<J, N>,
         links: usize,
         budget: &'a PartsBudget,
-    ) -> Door<'a, J, N> {
+    ) -> Door<'a, J, N>
+        ensures { result ≡ Feeds }
+    {
         Door::new(Listener::Tcp(listener), Way::Feeding(node), links, budget)
     }
 
@@ -97,7 +121,9 @@ impl<'a, J: NodeName, N: Wait + Drop> Door<'a, J, N> {
         listener: &'a TcpListener,
         links: usize,
         budget: &'a PartsBudget,
-    ) -> Door<'a, J, N> {
+    ) -> Door<'a, J, N>
+        ensures { result ≡ Readings }
+    {
         Door::new(Listener::Tcp(listener), Way::Reading, links, budget)
     }
 
@@ -106,12 +132,16 @@ impl<'a, J: NodeName, N: Wait + Drop> Door<'a, J, N> {
         listener: &'a UnixListener,
         links: usize,
         budget: &'a PartsBudget,
-    ) -> Door<'a, J, N> {
+    ) -> Door<'a, J, N>
+        ensures { result ≡ Readings }
+    {
         Door::new(Listener::Unix(listener), Way::Reading, links, budget)
     }
 
     /// The same door, of whose connections each change that takes effect is reported too.
-    pub fn with_changes(self) -> Door<'a, J, N> {
+    pub fn with_changes(self) -> Door<'a, J, N>
+        ensures { result ≡ self.entry }
+    {
         let mut door = self;
         door.tells_changes = true;
         door

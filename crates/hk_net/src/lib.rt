@@ -13,19 +13,23 @@ mod link_session;
 mod links;
 mod places;
 mod reactor;
+mod rest;
 mod serving;
 mod shop;
 mod sockets;
+mod speech;
 mod staying;
 mod turns;
 mod waiting;
+mod watching;
 mod worker;
 mod writing;
 
 pub use doors::{Door, Limits};
 pub use hk_host::{
-    FeedHost, LinkEvent, NetFault, NodeHost, SeatHost, Watch, read_on_seat, serve_links,
-    serve_on_seat, serve_parts, serve_plain,
+    FeedHost, LinkEvent, NetFault, NodeHost, SeatHost, Speech, Subject, serve_links, serve_parts,
+    serve_plain,
 };
 pub use hk_link::{LinkState, Meters, NodeSide, PartsBudget, PartsHost, given_law};
 pub use staying::serve_forever;
+pub use watching::Watch;

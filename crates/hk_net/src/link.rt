@@ -2,10 +2,13 @@
 
 use crate::doors::Limits;
 use crate::link_session::LinkSession;
+use crate::rest::Rest;
 use crate::sockets::Socket;
+use crate::speech::speech_of;
 use crate::waiting::Awaited;
 use crate::writing::{MOST_HELD, Unwritten};
 use hk_doors::FrameWatch;
+use hk_host::Speech;
 use hk_link::{LinkState, Meters};
 use hk_session::Ended;
 use std::alloc::Global;
@@ -19,6 +22,9 @@ const MOST_SILENT: u64 = 250;
 /// From how many milliseconds on a frame that isn't complete has to have brought as many bytes as its time asks for.
 const RATE_AFTER: u64 = 30_000;
 
+/// How many of a connection's first bytes show what they are of.
+const FIRST_BYTES: usize = 4;
+
 /// How many bytes are counted together where room is reserved for them.
 const COUNTED_BYTES: u64 = 4_096;
 
@@ -29,6 +35,8 @@ pub(crate) struct Readiness {
     pub(crate) is_writable: bool,
     /// The peer sends no more, or had a byte out of band: it is read until nothing is there.
     pub(crate) is_special: bool,
+    /// The peer sends no more.
+    pub(crate) is_closed: bool,
     /// The socket failed.
     pub(crate) is_broken: bool,
 }
@@ -41,8 +49,15 @@ pub(crate) struct Pipe<'d> {
     pub(crate) meters: &'d Meters<'d>,
     pub(crate) socket: Socket,
     pub(crate) watch: FrameWatch,
-    /// What was read and isn't handed to its session, since it begins with a request for a worker that gives long answers.
-    pub(crate) rest: Vec<u8>,
+    /// Whether its first four bytes are still to come, and what they are of, where they are of no message.
+    is_fresh: bool,
+    pub(crate) speech: Option<Speech>,
+    /// What was read and isn't handed to its session.
+    pub(crate) rest: Rest,
+    /// Whether that begins with a request for a worker that gives long answers.
+    pub(crate) rest_moves: bool,
+    /// Whether its session keeps a request for a worker that gives long answers.
+    pub(crate) is_far: bool,
     pub(crate) unwritten: Unwritten,
     /// What it waits for.
     pub(crate) awaited: Option<Awaited>,
@@ -55,6 +70,8 @@ pub(crate) struct Pipe<'d> {
     pub(crate) is_readable: bool,
     /// It is read until nothing is there: a read that doesn't fill its buffer may not have taken all.
     pub(crate) is_special: bool,
+    /// The peer sends no more than what can be read: an Await of it isn't waited for.
+    pub(crate) is_closed: bool,
     /// Its session keeps requests that can be answered.
     pub(crate) is_full: bool,
     /// Its next request is an Await, which was waited for.
@@ -70,8 +87,8 @@ pub(crate) struct Pipe<'d> {
 #[derive(Drop)]
 pub(crate) struct Link<'d> {
     /// The number of its door, and its place among the connections of all doors.
-    pub(crate) door: usize,
-    pub(crate) place: usize,
+    door: u32,
+    place: u32,
     pub(crate) pipe: Pipe<'d>,
     pub(crate) session: LinkSession,
     /// What it keeps beside its worker's seat, and how many bytes of that are reserved for its pipe.
@@ -89,7 +106,11 @@ impl<'d> Pipe<'d> {
             meters,
             socket,
             watch: FrameWatch::new(),
-            rest: Vec::new(alloc),
+            is_fresh: true,
+            speech: None,
+            rest: Rest::new(alloc),
+            rest_moves: false,
+            is_far: false,
             unwritten: Unwritten::new(alloc),
             awaited: None,
             since: now,
@@ -97,6 +118,7 @@ impl<'d> Pipe<'d> {
             ended: None,
             is_readable: true,
             is_special: false,
+            is_closed: false,
             is_full: false,
             has_waited: false,
             is_shut: false,
@@ -110,6 +132,7 @@ impl<'d> Pipe<'d> {
     pub(crate) fn note(&mut self, told: Readiness) -> bool {
         self.is_readable = self.is_readable || told.is_readable;
         self.is_special = self.is_special || told.is_special;
+        self.is_closed = self.is_closed || told.is_closed;
         if told.is_writable {
             self.unwritten.note_writable();
         }
@@ -121,7 +144,15 @@ impl<'d> Pipe<'d> {
         self.is_cut || is_read || !self.unwritten.is_empty()
     }
 
-    /// How many bytes stand before its session: what came of a frame that isn't complete, and what waits for another worker.
+    /// Notes what its first bytes are of, once four are there.
+    pub(crate) fn note_first(&mut self, bytes: &[u8]) {
+        if self.is_fresh && bytes.len() >= FIRST_BYTES {
+            self.is_fresh = false;
+            self.speech = speech_of(bytes);
+        }
+    }
+
+    /// How many bytes stand before its session: what came of a frame that isn't complete, and what waits.
     pub(crate) fn held(&self) -> u64 {
         self.watch.held().saturating_add(self.rest.len() as u64)
     }
@@ -149,8 +180,13 @@ impl<'d> Pipe<'d> {
         took >= RATE_AFTER && self.watch.held() < wanted
     }
 
+    /// Whether no byte came or went for so many seconds.
+    fn is_silent(&self, now: u64, seconds: u64) -> bool {
+        now.saturating_sub(self.since) >= seconds.saturating_mul(1_000)
+    }
+
     /// How it ends where it did nothing for too long.
-    pub(crate) fn over_time(&self, now: u64, limits: &Limits) -> Option<Ended> {
+    fn over_time(&self, now: u64, limits: &Limits) -> Option<Ended> {
         let silent = now.saturating_sub(self.since);
         if self.is_shut {
             let all = now.saturating_sub(self.shut_at);
@@ -169,7 +205,7 @@ impl<'d> Pipe<'d> {
         } else {
             (limits.idle_seconds, Ended::ReadFault)
         };
-        if seconds > 0 && silent >= seconds.saturating_mul(1_000) {
+        if seconds > 0 && self.is_silent(now, seconds) {
             Some(ended)
         } else {
             None
@@ -177,7 +213,7 @@ impl<'d> Pipe<'d> {
     }
 
     /// Whether something of it may come to be over time.
-    pub(crate) fn is_timed(&self, limits: &Limits) -> bool {
+    fn is_timed(&self, limits: &Limits) -> bool {
         self.is_shut
             || limits.idle_seconds > 0
             || !self.unwritten.is_empty() && limits.write_seconds > 0
@@ -197,13 +233,50 @@ impl<'d> Link<'d> {
         meters: &'d Meters<'d>,
     ) -> Link<'d> {
         Link {
-            door,
-            place,
+            door: u32::try_from(door).unwrap_or(u32::MAX),
+            place: u32::try_from(place).unwrap_or(u32::MAX),
             pipe: Pipe::new(alloc, socket, now, meters),
             session: LinkSession::new(alloc, in_both),
             kept: None,
             reserved: 0,
             has_let_go: false,
+        }
+    }
+
+    /// The number of its door.
+    pub(crate) fn door(&self) -> usize {
+        self.door as usize
+    }
+
+    /// Its place among the connections of all doors.
+    pub(crate) fn place(&self) -> usize {
+        self.place as usize
+    }
+
+    /// Whether its peer takes a snapshot in chunks, and might ask for the next one.
+    fn is_giving(&self) -> bool {
+        match &self.kept {
+            Some(kept) => kept.is_giving(),
+            None => false,
+        }
+    }
+
+    /// Whether something of it may come to be over time.
+    pub(crate) fn is_timed(&self, limits: &Limits) -> bool {
+        self.pipe.is_timed(limits) || limits.write_seconds > 0 && self.is_giving()
+    }
+
+    /// How it ends where it did nothing for too long. A peer that takes a snapshot in chunks, and asks for no further one, takes no reply.
+    pub(crate) fn over_time(&self, now: u64, limits: &Limits) -> Option<Ended> {
+        let ended = self.pipe.over_time(now, limits);
+        if ended.is_some() || limits.write_seconds == 0 || !self.is_giving() {
+            return ended;
+        }
+        let is_over = self.pipe.is_silent(now, limits.write_seconds);
+        if is_over && self.pipe.awaited.is_none() {
+            Some(Ended::WriteFault)
+        } else {
+            None
         }
     }
 
@@ -214,7 +287,7 @@ impl<'d> Link<'d> {
     }
 
     /// Reserves room of the budget for what is between its socket and its session: what came of a frame that isn't complete, what waits
-    /// for another worker, and replies that aren't written. A connection for which there is none ends. Fewer bytes than 4,096 aren't counted.
+    /// behind an Await, for others or for another worker, and replies that aren't written. A connection for which there is none ends. Fewer bytes than 4,096 aren't counted.
     pub(crate) fn reserve(&mut self) {
         let held = self.pipe.held().saturating_add(self.unwritten_bytes());
         let bytes = held / COUNTED_BYTES * COUNTED_BYTES;
@@ -236,7 +309,7 @@ impl<'d> Link<'d> {
     fn drop_held(&mut self) {
         self.pipe.cut(Ended::Memory);
         self.pipe.unwritten.drop_all();
-        self.pipe.rest = Vec::new(self.pipe.alloc);
+        self.pipe.rest.drop_all();
         self.session = self.session.anew(self.pipe.alloc);
     }
 

@@ -1,6 +1,7 @@
 //! The connections of a worker, each under the token that the system names it by.
 
 use std::alloc::{AllocError, Global};
+use std::collections::VecDeque;
 use std::mem;
 
 /// What stands under a token.
@@ -18,8 +19,11 @@ pub(crate) struct Links<L: Drop> {
     /// Each at its token.
     slots: Vec<Slot<L>>,
     free: Vec<usize>,
-    /// Those that have a turn in the next round, and those of this one.
+    /// Those that have a turn in the next round, since something happened to them.
     listed: Vec<usize>,
+    /// Those that had a turn and have more to do, in the order of these turns.
+    again: VecDeque<usize>,
+    /// Those that have a turn in this round.
     round: Vec<usize>,
 }
 
@@ -29,6 +33,7 @@ impl<L: Drop> Links<L> {
             slots: Vec::new(alloc),
             free: Vec::new(alloc),
             listed: Vec::new(alloc),
+            again: VecDeque::new(alloc),
             round: Vec::new(alloc),
         }
     }
@@ -40,7 +45,7 @@ impl<L: Drop> Links<L> {
 
     /// Whether some have a turn.
     pub(crate) fn has_listed(&self) -> bool {
-        !self.listed.is_empty()
+        !self.listed.is_empty() || !self.again.is_empty()
     }
 
     /// A token for a further connection, with room for it in each list.
@@ -51,6 +56,7 @@ impl<L: Drop> Links<L> {
         let token = self.slots.len();
         self.free.reserve(token.saturating_add(1))?;
         self.listed.reserve(token.saturating_add(1))?;
+        self.again.reserve(token.saturating_add(1))?;
         self.round.reserve(token.saturating_add(1))?;
         self.slots.push(Slot {
             link: None,
@@ -92,22 +98,52 @@ impl<L: Drop> Links<L> {
         }
     }
 
-    /// Gives the connection under a token a turn, once.
-    pub(crate) fn list(&mut self, token: usize) {
-        let Some(slot) = self.slots.get_mut(token) else {
-            return;
-        };
-        if slot.link.is_none() || mem::replace(&mut slot.is_listed, true) {
-            return;
+    /// Notes that the connection under a token has a turn. Returns whether it had none.
+    fn note_listed(&mut self, token: usize) -> bool {
+        match self.slots.get_mut(token) {
+            Some(slot) => slot.link.is_some() && !mem::replace(&mut slot.is_listed, true),
+            None => false,
         }
-        // There is room for it since the token was made.
-        let _kept = self.listed.push(token);
     }
 
-    /// Begins a round with those that have a turn now, and returns how many they are.
+    /// Gives the connection under a token a turn in the next round, once.
+    pub(crate) fn list(&mut self, token: usize) {
+        if self.note_listed(token) {
+            // There is room for it since the token was made.
+            let _kept = self.listed.push(token);
+        }
+    }
+
+    /// Gives the connection under a token a turn after others, once.
+    pub(crate) fn list_again(&mut self, token: usize) {
+        if self.note_listed(token) {
+            // There is room for it since the token was made.
+            let _kept = self.again.push_back(token);
+        }
+    }
+
+    /// Begins a round with those to which something happened, and returns how many they are.
     pub(crate) fn begin_round(&mut self) -> usize {
         self.round.clear();
         mem::swap(&mut self.listed, &mut self.round);
+        self.round.len()
+    }
+
+    /// How many of those that had a turn have more to do.
+    pub(crate) fn count_again(&self) -> usize {
+        self.again.len()
+    }
+
+    /// Takes the one of them that waits longest into the round.
+    pub(crate) fn take_again(&mut self) -> Option<usize> {
+        let token = self.again.pop_front()?;
+        // There is room for it since the token was made.
+        let _kept = self.round.push(token);
+        Some(token)
+    }
+
+    /// How many have their turn in this round.
+    pub(crate) fn round_len(&self) -> usize {
         self.round.len()
     }
 

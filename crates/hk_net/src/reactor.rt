@@ -22,6 +22,14 @@ const LONG_CHANGE: u64 = 20;
 /// How many milliseconds pass before a wait that failed is tried again.
 const WAIT_PAUSE: u64 = 100;
 
+/// That a connection ended for want of memory.
+pub(crate) fn without_memory() -> LinkEvent {
+    LinkEvent::Ended {
+        ended: Ended::Memory,
+        speech: None,
+    }
+}
+
 /// The sockets that a worker waits for, who is notified, and its connections.
 #[derive(Drop)]
 pub(crate) struct Reactor<'w, 'd, R: Wait + Clock + 'w> {
@@ -119,17 +127,19 @@ impl<'w, 'd, R: Wait + Clock + 'w> Reactor<'w, 'd, R> {
 
     /// Ends a connection: its socket is closed, and its slot is free.
     pub(crate) fn close(&mut self, token: usize, link: Box<Link<'d>, Global>) {
-        let (ended, door, place) = (link.pipe.end(), link.door, link.place);
+        let (ended, door, place) = (link.pipe.end(), link.door(), link.place());
+        let speech = link.pipe.speech;
         drop(link);
         self.worker.links.free(token);
-        self.teller.tell(self.rt, LinkEvent::Ended(ended));
+        self.teller
+            .tell(self.rt, LinkEvent::Ended { ended, speech });
         self.staff.give_back(self.rt, door, place);
     }
 
     /// Closes a connection that has no token, for want of memory.
     pub(crate) fn refuse(&mut self, door: usize, place: usize) {
         self.teller.turn_to(place, false);
-        self.teller.tell(self.rt, LinkEvent::Ended(Ended::Memory));
+        self.teller.tell(self.rt, without_memory());
         self.staff.give_back(self.rt, door, place);
     }
 
@@ -150,7 +160,7 @@ impl<'w, 'd, R: Wait + Clock + 'w> Reactor<'w, 'd, R> {
     pub(crate) fn enter(&mut self, link: Box<Link<'d>, Global>) {
         let mut link = link;
         let Ok(token) = self.worker.links.new_token() else {
-            self.refuse(link.door, link.place);
+            self.refuse(link.door(), link.place());
             return;
         };
         let registry = self.poll.registry();

@@ -18,6 +18,9 @@ use std::rt::Clock;
 use std::sync::Wait;
 use std::thread::Threads;
 
+/// For how many milliseconds connections that had a turn have further ones before the system is asked what happened to others.
+const FURTHER_TURNS: u64 = 2;
+
 /// The turn of a connection that may do everything.
 fn turn_open<'a, 'd, J: NodeName, N: Wait + Drop, R: Threads + Wait + Sync>(
     rt: &'a R,
@@ -126,7 +129,7 @@ impl<'w, 'd, J: NodeName + 'w, N: Wait + Drop + 'w, R: Threads + Wait + Clock + 
             return;
         }
         let staff = &self.shop.staff;
-        let worker = staff.long_worker(link.place).unwrap_or(usize::MAX);
+        let worker = staff.long_worker(link.place()).unwrap_or(usize::MAX);
         let inbox = self.shop.inboxes.get(worker);
         match leave_moved(self.reactor.rt, inbox, self.seat.as_ref(), link) {
             Some(link) => self.reactor.worker.cut(token, link),
@@ -148,7 +151,7 @@ impl<'w, 'd, J: NodeName + 'w, N: Wait + Drop + 'w, R: Threads + Wait + Clock + 
 
     /// The turn of the connection under a token, unless it waits for a time.
     fn turn_of(&mut self, token: usize, link: &mut Link<'d>) -> Turn {
-        let Some(door) = self.shop.doors.get(link.door) else {
+        let Some(door) = self.shop.doors.get(link.door()) else {
             return Turn::Over;
         };
         if !self.reactor.begin_turn(token, link) {
@@ -158,11 +161,16 @@ impl<'w, 'd, J: NodeName + 'w, N: Wait + Drop + 'w, R: Threads + Wait + Clock + 
             return Turn::Over;
         };
         let moment = self.reactor.moment(door.way.passes());
-        self.reactor.teller.turn_to(link.place, door.tells_changes);
+        self.reactor
+            .teller
+            .turn_to(link.place(), door.tells_changes);
         let seen = seat.seen();
-        let (turn, seat) = self.turn_on(door, moment, link, seat);
+        let (turn, mut seat) = self.turn_on(door, moment, link, seat);
+        if self.reactor.teller.take_change() {
+            self.reactor.teller.bell().ring_marks(&mut seat);
+        }
         if seen < seat.seen() {
-            self.reactor.note_change(moment, link.door);
+            self.reactor.note_change(moment, link.door());
         }
         self.seat = Some(seat);
         turn
@@ -177,7 +185,24 @@ impl<'w, 'd, J: NodeName + 'w, N: Wait + Drop + 'w, R: Threads + Wait + Clock + 
         self.settle(token, turn, link);
     }
 
-    /// Gives each connection that is listed its turn, and then writes their replies: a peer that has several connections is woken once.
+    /// Gives those that had a turn and have more to do a further one, in their order, until so many milliseconds are over.
+    fn take_further_turns(&mut self) {
+        let until = self.reactor.worker.now.saturating_add(FURTHER_TURNS);
+        for _ in 0..self.reactor.worker.links.count_again() {
+            let Some(token) = self.reactor.worker.links.take_again() else {
+                return;
+            };
+            self.serve(token);
+            self.reactor.look_at_clock();
+            if self.reactor.worker.now >= until {
+                return;
+            }
+        }
+    }
+
+    /// Gives each connection to which something happened its turn, and some that have more to do a further one; and then writes their
+    /// replies: a peer that has several connections is woken once. So who sends much at once holds up others by a request or some, and
+    /// who asks for one thing after the other isn't held up by all of it.
     fn take_turns(&mut self) {
         self.reactor.worker.has_freed = false;
         let count = self.reactor.worker.links.begin_round();
@@ -186,8 +211,9 @@ impl<'w, 'd, J: NodeName + 'w, N: Wait + Drop + 'w, R: Threads + Wait + Clock + 
                 self.serve(token);
             }
         }
+        self.take_further_turns();
         let staff = &self.shop.staff;
-        self.reactor.worker.end_round(count, &staff.limits);
+        self.reactor.worker.end_round(&staff.limits);
         let least = self.reactor.worker.waiting.least_number();
         staff.bell.expect(self.reactor.worker.number, least);
     }
@@ -243,13 +269,10 @@ impl<'w, 'd, J: NodeName + 'w, N: Wait + Drop + 'w, R: Threads + Wait + Clock + 
         let Some(door) = self.reactor.worker.behind.take() else {
             return;
         };
-        if let Some(
-            Door {
-                way: Way::Open(node) | Way::Feeding(node),
-                ..
-            },
-        ) = self.shop.doors.get(door)
-        {
+        let Some(door) = self.shop.doors.get(door) else {
+            return;
+        };
+        if let Way::Open(node) | Way::Feeding(node) = &door.way {
             node.settle(self.reactor.rt);
         }
     }

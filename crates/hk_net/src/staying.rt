@@ -9,9 +9,10 @@ use crate::doors::{Door, Limits};
 use crate::places::Places;
 use crate::serving::{Tools, serve_worker};
 use crate::shop::{Shop, Staff};
+use crate::watching::{Watch, hand_on};
 use crate::worker::{PIECE, WAKER};
 use crossbeam_channel::{Sender, bounded};
-use hk_host::{Bell, EVENTS, LinkEvent, NetFault, Teller, Watch, hand_on};
+use hk_host::{Bell, EVENTS, LinkEvent, NetFault, Teller};
 use hk_link::Meters;
 use hk_node::{NodeName, ReaderSeat};
 use mio::{Events, Poll, Token, Waker};
@@ -299,7 +300,8 @@ fn shop_of<'d, J: NodeName, N: Wait + Drop>(
 /// no thread. What connections ask, how many there are and what they read and write is counted by `meters`, which are for as many doors.
 ///
 /// `watch` gets an event for each connection that opens and ends, for each change that is refused, and through a door that wants it for each
-/// that takes effect, with the slot of the connection, in the order in which that is seen; connections wait where it is slow. A
+/// that takes effect, with the slot of the connection, in the order in which that is seen; connections wait where it is slow, and where it
+/// owes something it is asked a second later. A
 /// failed accept is reported, and tried again after a tenth of a second; it ends nothing. `Memory` comes where the lists can't be made, or
 /// no thread could be started, `Socket` where the system has no set of sockets for a worker. It returns otherwise never. Cost: that of the
 /// sessions.

@@ -3,8 +3,9 @@
 ghost use Rattle.std.specs.Prelude.{◌≡◌, ◌≤◌, length};
 
 use crate::link::{Link, Pipe};
+use crate::rest::Rest;
 use crate::writing::MOST_HELD;
-use hk_doors::Passes;
+use hk_doors::{Passes, Taken, Then};
 use hk_link::{LinkState, NodeSide, PartsHost};
 use hk_session::{Ended, Host, Step};
 use hk_wire::{LaterReply, LaterRequest, Reply, Request};
@@ -95,6 +96,8 @@ impl Pipe<'_> {
     /// Notes how far the session is. An Await whose time is readable, or that waits for no time at all, is answered by the next step.
     fn note_step(&mut self, step: Step, readable: u64) -> Option<Turn> {
         self.is_full = matches!(step, Step::Full);
+        // A peer that sends no more gets what there is.
+        let readable = if self.is_closed { u64::MAX } else { readable };
         match step {
             Step::GoesOn | Step::Full => {}
             Step::Ended(ended) => {
@@ -129,7 +132,19 @@ impl Pipe<'_> {
 
     /// Whether its next request is for a worker that gives long answers, and this isn't one.
     fn has_to_move(&self, moment: Moment) -> bool {
-        !moment.is_at_long_end && !self.rest.is_empty() && !self.is_full && !self.has_waited
+        let is_next = self.rest_moves && !self.is_full && !self.has_waited;
+        !moment.is_at_long_end && (self.is_far || is_next)
+    }
+
+    /// Whether a reply of it is written in part.
+    pub(crate) fn is_writing(&self) -> bool {
+        self.is_full || !self.unwritten.is_empty()
+    }
+
+    /// Whether others have their turn before its session is handed more, which answered something or didn't.
+    fn lets_others(&self, has_answered: bool) -> bool {
+        let waits = !self.rest.is_empty() && !self.rest_moves;
+        !self.is_full && (waits || has_answered && self.is_readable)
     }
 
     /// Writes what stands, and counts what was written. Where the socket failed the connection ends.
@@ -157,7 +172,7 @@ impl Pipe<'_> {
         if self.ended.is_some() {
             return !self.is_shut;
         }
-        let is_held = self.is_full || self.has_waited || !self.rest.is_empty();
+        let is_held = self.is_full || self.has_waited || self.is_far || !self.rest.is_empty();
         self.awaited.is_none() && (is_held || self.is_readable)
     }
 
@@ -222,43 +237,79 @@ impl<'d> Link<'d> {
         Step::Ended(session.finish(out))
     }
 
-    /// Hands on what a read brought, behind what began a frame before.
-    fn take_in<H: Host>(
+    /// Hands on one request that may take many looks, and answers it where it takes few.
+    fn take_apart<H: NodeSide + Drop>(
+        &mut self,
+        piece: &[u8],
+        out: &mut Vec<u8>,
+        host: &mut PartsHost<'_, H>,
+    ) -> Step
+        requires { H.ready host.old.inner }
+        ensures { H.ready host.new.inner }
+    {
+        match self.session.take_briefly(piece, out, host) {
+            Some(step) => step,
+            None => {
+                self.pipe.is_far = true;
+                Step::GoesOn
+            }
+        }
+    }
+
+    /// Hands on of these bytes what the session may have now, which is answered.
+    fn hand_on<H: NodeSide + Drop>(
         &mut self,
         moment: Moment,
         came: &mut [u8],
         out: &mut Vec<u8>,
-        host: &mut H,
-    ) -> Step
-        requires { H.ready host.old }
-        ensures { H.ready host.new }
+        host: &mut PartsHost<'_, H>,
+    ) -> (Step, Taken)
+        requires ready { H.ready host.old.inner }
+        ensures ready { H.ready host.new.inner }
+        ensures some { result.1.count ≤ length came.new }
     {
         let taken = self
             .pipe
             .watch
             .take(came, moment.passes, moment.is_at_long_end);
-        if taken.is_long
-            && self
-                .pipe
-                .rest
-                .extend_from_slice(&came[taken.count..])
-                .is_err()
-        {
+        self.pipe.rest_moves = taken.then == Then::Moves;
+        let piece = &came[..taken.count];
+        let step = if taken.is_apart {
+            self.take_apart(piece, out, host)
+        } else {
+            self.session.take(piece, false, out, host)
+        };
+        (step, taken)
+    }
+
+    /// Hands on what a read brought, behind what began a frame before; what isn't handed on waits.
+    fn take_in<H: NodeSide + Drop>(
+        &mut self,
+        moment: Moment,
+        came: &mut [u8],
+        out: &mut Vec<u8>,
+        host: &mut PartsHost<'_, H>,
+    ) -> Step
+        requires { H.ready host.old.inner }
+        ensures { H.ready host.new.inner }
+    {
+        let (step, taken) = self.hand_on(moment, came, out, host);
+        if taken.then != Then::Reads && !self.pipe.rest.put(&came[taken.count..]) {
             return Step::Ended(Ended::Memory);
         }
-        self.session.take(&came[..taken.count], false, out, host)
+        step
     }
 
     /// Reads once, and answers what is complete. `None` where nothing is there to read.
-    fn read<H: Host>(
+    fn read<H: NodeSide + Drop>(
         &mut self,
         moment: Moment,
         piece: &mut [u8],
         out: &mut Vec<u8>,
-        host: &mut H,
+        host: &mut PartsHost<'_, H>,
     ) -> Option<Step>
-        requires { H.ready host.old }
-        ensures ready { H.ready host.new }
+        requires { H.ready host.old.inner }
+        ensures ready { H.ready host.new.inner }
         ensures kept { length piece.new ≡ length piece.old }
     {
         let begun = self.pipe.watch.put_begun(piece);
@@ -274,6 +325,7 @@ impl<'d> Link<'d> {
                 if count < piece.len() - begun && !self.pipe.is_special {
                     self.pipe.is_readable = false;
                 }
+                self.pipe.note_first(&piece[..begun + count]);
                 let step = self.take_in(moment, &mut piece[..begun + count], out, host);
                 // The frame that isn't complete, or that is for another worker, began with these bytes.
                 let held = self.pipe.held();
@@ -293,29 +345,42 @@ impl<'d> Link<'d> {
         }
     }
 
-    /// Hands on what an earlier worker had read.
-    fn take_rest<H: Host>(&mut self, moment: Moment, out: &mut Vec<u8>, host: &mut H) -> Step
-        requires { H.ready host.old }
-        ensures { H.ready host.new }
+    /// Hands on what had to wait.
+    fn take_rest<H: NodeSide + Drop>(
+        &mut self,
+        moment: Moment,
+        out: &mut Vec<u8>,
+        host: &mut PartsHost<'_, H>,
+    ) -> Step
+        requires { H.ready host.old.inner }
+        ensures { H.ready host.new.inner }
     {
-        let alloc = self.pipe.alloc;
-        let mut rest = mem::replace(&mut self.pipe.rest, Vec::new(alloc));
-        self.take_in(moment, &mut rest, out, host)
+        let none = Rest::new(self.pipe.alloc);
+        let mut rest = mem::replace(&mut self.pipe.rest, none);
+        let (step, taken) = self.hand_on(moment, rest.left(), out, host);
+        if taken.then == Then::Reads {
+            rest.drop_all();
+        } else {
+            rest.pass(taken.count);
+        }
+        self.pipe.rest = rest;
+        step
     }
 
     /// Answers what waits, or what is there to read. `None` where nothing is.
-    fn step<H: Host>(
+    fn step<H: NodeSide + Drop>(
         &mut self,
         moment: Moment,
         piece: &mut [u8],
         out: &mut Vec<u8>,
-        host: &mut H,
+        host: &mut PartsHost<'_, H>,
     ) -> Option<Step>
-        requires { H.ready host.old }
-        ensures ready { H.ready host.new }
+        requires { H.ready host.old.inner }
+        ensures ready { H.ready host.new.inner }
         ensures kept { length piece.new ≡ length piece.old }
     {
-        if self.pipe.is_full || self.pipe.has_waited {
+        if self.pipe.is_full || self.pipe.has_waited || self.pipe.is_far {
+            self.pipe.is_far = false;
             let has_waited = mem::replace(&mut self.pipe.has_waited, false);
             return Some(self.session.take(&[], has_waited, out, host));
         }
@@ -338,15 +403,15 @@ impl<'d> Link<'d> {
     }
 
     /// One after the other what can be done now, until the session ends.
-    fn steps<H: Host>(
+    fn steps<H: NodeSide + Drop>(
         &mut self,
         moment: Moment,
         piece: &mut [u8],
         out: &mut Vec<u8>,
-        host: &mut H,
+        host: &mut PartsHost<'_, H>,
     ) -> Turn
-        requires { H.ready host.old }
-        ensures { H.ready host.new }
+        requires { H.ready host.old.inner }
+        ensures { H.ready host.new.inner }
     {
         for _ in 0..MOST_READS {
             if self.pipe.unwritten.len() > MOST_HELD {
@@ -358,6 +423,7 @@ impl<'d> Link<'d> {
             let Some(step) = self.step(moment, piece, out, host) else {
                 return Turn::Waits;
             };
+            let has_answered = !out.is_empty();
             let turn = self.pipe.note_step(step, moment.readable);
             self.pipe.put(moment, out);
             if self.pipe.ended.is_some() {
@@ -365,6 +431,9 @@ impl<'d> Link<'d> {
             }
             if let Some(turn) = turn {
                 return turn;
+            }
+            if self.pipe.lets_others(has_answered) {
+                return Turn::Again;
             }
         }
         Turn::Again

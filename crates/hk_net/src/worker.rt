@@ -121,6 +121,7 @@ impl<'d> Worker<'d> {
                 is_readable: event.is_readable() || is_special,
                 is_writable: event.is_writable(),
                 is_special,
+                is_closed: event.is_read_closed(),
                 is_broken: event.is_error() || event.is_write_closed(),
             };
             let Some(link) = self.links.get_mut(token) else {
@@ -129,8 +130,26 @@ impl<'d> Worker<'d> {
             if link.pipe.note(told) {
                 self.links.list(token);
             }
+            if told.is_closed {
+                self.end_wait(token);
+            }
         }
         is_woken
+    }
+
+    /// Has a connection that waits for a time wait no longer.
+    fn end_wait(&mut self, token: usize) {
+        let Some(link) = self.links.get_mut(token) else {
+            return;
+        };
+        let Some(awaited) = link.pipe.awaited.take() else {
+            return;
+        };
+        link.pipe.has_waited = true;
+        link.pipe.since = self.now;
+        link.pipe.frame_since = self.now;
+        self.waiting.remove(token, awaited);
+        self.links.list(token);
     }
 
     /// Gives a turn to each connection whose time is readable, or that waited for as long as it wanted.
@@ -139,22 +158,13 @@ impl<'d> Worker<'d> {
             let Some(token) = self.waiting.take_due(readable, self.now) else {
                 return;
             };
-            let Some(link) = self.links.get_mut(token) else {
-                continue;
-            };
-            if let Some(awaited) = link.pipe.awaited.take() {
-                self.waiting.remove(token, awaited);
-            }
-            link.pipe.has_waited = true;
-            link.pipe.since = self.now;
-            link.pipe.frame_since = self.now;
-            self.links.list(token);
+            self.end_wait(token);
         }
     }
 
-    /// Writes the replies of the connections that had their turn, as many as there were.
-    pub(crate) fn end_round(&mut self, count: usize, limits: &Limits) {
-        for at in 0..count {
+    /// Writes the replies of the connections that had their turn.
+    pub(crate) fn end_round(&mut self, limits: &Limits) {
+        for at in 0..self.links.round_len() {
             let Some(token) = self.links.in_round(at) else {
                 continue;
             };
@@ -162,9 +172,10 @@ impl<'d> Worker<'d> {
                 continue;
             };
             let has_turn = link.end_round(self.now);
-            self.is_timed = self.is_timed || link.pipe.is_timed(limits);
+            self.is_timed = self.is_timed || link.is_timed(limits);
+            let is_writing = link.pipe.is_writing();
             if has_turn {
-                self.links.list(token);
+                self.list_by(token, is_writing);
             }
         }
     }
@@ -180,8 +191,8 @@ impl<'d> Worker<'d> {
             let Some(link) = self.links.get_mut(token) else {
                 continue;
             };
-            is_timed = is_timed || link.pipe.is_timed(limits);
-            if let Some(ended) = link.pipe.over_time(self.now, limits) {
+            is_timed = is_timed || link.is_timed(limits);
+            if let Some(ended) = link.over_time(self.now, limits) {
                 link.pipe.cut(ended);
                 self.links.list(token);
             }
@@ -195,6 +206,15 @@ impl<'d> Worker<'d> {
         self.links.list(token);
     }
 
+    /// Gives the connection under a token a further turn: soon where it is about to write a reply, else after others.
+    fn list_by(&mut self, token: usize, is_writing: bool) {
+        if is_writing {
+            self.links.list(token);
+        } else {
+            self.links.list_again(token);
+        }
+    }
+
     /// Puts a connection that stays under its token after its turn, as it wants.
     pub(crate) fn settle(&mut self, token: usize, turn: Turn, link: Box<Link<'d>, Global>) {
         if let Turn::Parks {
@@ -206,9 +226,10 @@ impl<'d> Worker<'d> {
             return;
         }
         self.has_freed = self.has_freed || turn == Turn::Freed;
+        let is_writing = link.pipe.is_writing();
         self.links.put(token, link);
         if turn != Turn::Waits {
-            self.links.list(token);
+            self.list_by(token, is_writing);
         }
     }
 

@@ -1,6 +1,6 @@
 //! The seats of readers, which take no lock and never wait: a seat is a reader's session with monotonic reads.
 
-ghost use Rattle.std.specs.Prelude.{◌≡◌, ◌≢◌, ◌⊎◌, All, true, length, IfOk, IfErr, IsTrue, vec_len};
+ghost use Rattle.std.specs.Prelude.{◌≡◌, ◌≢◌, ◌⊎◌, All, true, length, IfOk, IfErr, IfSome, IsTrue, vec_len};
 ghost use Rattle.hk_types.specs.declared.faults.Refusal.TheVariants.{Damaged, Memory};
 ghost use Rattle.hk_model.specs.Replica.Pages.{page_seen};
 ghost use Rattle.hk_model.specs.Replica.StreamsTold.{streams_seen};
@@ -9,11 +9,11 @@ ghost use Rattle.left_right.specs.Sides.{view as known};
 ghost use Rattle.hk_store.specs.Reads.{facts_of_content};
 ghost use Rattle.hk_store.specs.TableLists.{AreTables};
 ghost use Rattle.hk_oplog.specs.Carried.{IsLatestOfPrimary, IsOfPrimary};
-ghost use Rattle.hk_oplog.specs.Final.{IsFinal, IsLatestFinal, IsPageFinal};
+ghost use Rattle.hk_oplog.specs.Final.{IsFinal, IsLatestFinal, IsPageFinal, IsPageFinalOrNone};
 ghost use Rattle.hk_oplog.specs.Holds.{HoldsBack};
 ghost use Rattle.hk_node.specs.Published.{IsOf, IsReplay, KeepsShown};
 ghost use Rattle.hk_oplog.specs.Replay.{config_of, guarded_of, is_legal, kind_of, replay, IsListOf};
-ghost use Rattle.hk_oplog.specs.Replies.{Answers, GivesOrMemory, GivesSeen, timed_seen, node_delta, node_front, node_latest, node_page, node_reply, node_streams, node_whole};
+ghost use Rattle.hk_oplog.specs.Replies.{Answers, GivesOrMemory, GivesPageOrNone, GivesSeen, timed_seen, node_delta, node_front, node_latest, node_page, node_reply, node_streams, node_whole};
 
 use crate::book::{NodeName, Prefix};
 use crate::publisher::{NodeReader, NodeReading, NodeWriter, Observes, Receipt};
@@ -181,11 +181,12 @@ fn latest_within(
     body.latest(alloc, query)
 }
 
-/// The delta of a copy, where it takes no more bytes than there is room for.
+/// The delta of a copy, where it takes no more bytes than there is room for. A base that is too old is refused as such.
 fn delta_within(alloc: Global, body: &Body, base: Time, room: u64) -> Result<Fragment, Refusal>
     ensures { GivesOrMemory (node_delta body.now base) result }
 {
-    if base.number() > 0 && body.is_cut_above(alloc, base, room) {
+    let is_old = base < body.horizon();
+    if !is_old && body.is_cut_above(alloc, base, room) {
         return Err(Refusal::Memory);
     }
     body.delta_since(alloc, base)
@@ -199,6 +200,17 @@ fn whole_within(alloc: Global, body: &Body, room: u64) -> Result<Fragment, Refus
         return Err(Refusal::Memory);
     }
     body.whole(alloc)
+}
+
+/// The tables of which a copy holds anything.
+fn all_tables(alloc: Global, body: &Body) -> Result<Vec<Table>, Refusal>
+    ensures ok { IfOk result (λ tables. AreTables (facts_of_content body.now.content) tables.items) }
+    ensures err { IfErr result (λ why. why ≡ Memory) }
+{
+    match body.tables(alloc, None)? {
+        Some(tables) => Ok(tables),
+        None => Err(Refusal::Memory),
+    }
 }
 
 impl<J: NodeName> ReaderSeat<J> {
@@ -316,6 +328,32 @@ impl<J: NodeName> ReaderSeat<J> {
         page
     }
 
+    /// The page that `page` gives, where it takes at most so many looks at a key; else `None`, and nothing of it is made.
+    ///
+    /// Refusals: those of `page`. Cost: that of a page of a state, with at most `looks` keys.
+    pub fn page_within(
+        &mut self,
+        time: Time,
+        table: Table,
+        low: Key,
+        high: Key,
+        most: u32,
+        looks: u64,
+    ) -> Result<Option<Page>, Refusal>
+        ensures legal { is_legal self.new ≡ true }
+        ensures seen { IsPrefix self.old self.new }
+        ensures page { GivesPageOrNone (replay self.new) time table low high most result }
+        ensures stays { J.kind.guarded ≡ true → IsPageFinalOrNone self.new time table low high most result }
+    {
+        let reading = self.enter()?;
+        let page = reading
+            .get()
+            .body
+            .page_within(self.alloc, time, table, low, high, most, looks);
+        self.leave(reading);
+        page
+    }
+
     /// How far the node is, and each of its streams: of a failed node too, since the report says whether it failed.
     /// The only refusal is `Memory`. Cost: O(s + h), s streams, h active pins.
     pub fn streams(&mut self) -> Result<StreamsTold, Refusal>
@@ -357,7 +395,21 @@ impl<J: NodeName> ReaderSeat<J> {
         ensures err { IfErr result (λ why. why ≡ Memory) }
     {
         let reading = self.enter()?;
-        let tables = reading.get().body.tables(self.alloc);
+        let tables = all_tables(self.alloc, &reading.get().body);
+        self.leave(reading);
+        tables
+    }
+
+    /// The same where there are no more than so many tables, else `None`. Cost: O(t · log n), t tables, at most `most`, n facts.
+    pub fn tables_within(&mut self, most: u64) -> Result<Option<Vec<Table>>, Refusal>
+        ensures legal { is_legal self.new ≡ true }
+        ensures seen { IsPrefix self.old self.new }
+        ensures tables { IfOk result (λ f. IfSome f
+            (λ it. AreTables (facts_of_content (replay self.new).content) it.items)) }
+        ensures err { IfErr result (λ why. why ≡ Memory) }
+    {
+        let reading = self.enter()?;
+        let tables = reading.get().body.tables(self.alloc, Some(most));
         self.leave(reading);
         Ok(tables?)
     }

@@ -1,5 +1,5 @@
 -- What a guarded node has answered, it never answers otherwise.
-use Rattle.std.specs.Prelude.{◌≡◌, ◌⊎◌, ◌≤◌, ◌++◌, ℕ, true, All, List, Result, Ok, Err, IfOk}
+use Rattle.std.specs.Prelude.{◌≡◌, ◌⊎◌, ◌≤◌, ◌++◌, ℕ, true, All, List, Option, Result, Ok, Err, IfOk, IfSome}
 use Rattle.hk_types.specs.declared.faults.Refusal.{Refusal}
 use Rattle.hk_types.specs.declared.faults.Refusal.TheVariants.{TooOld}
 use Rattle.hk_model.specs.declared.answer.Answer.{Answer}
@@ -47,3 +47,7 @@ IsLatestFinal ops query result = IfOk result (λ told. Later (λ list. StillGive
 -- and a page
 abbrev pub IsPageFinal : List Op → ℕ → ℕ → ℕ → ℕ → ℕ → Result Page Refusal → Type 0
 IsPageFinal ops t table low high most result = IfOk result (λ page. Later (λ list. StillGives (replay list) (node_page (replay list) t table low high most) (page_seen page)) ops)
+
+-- so is one of a call that may give up, where it gave one
+abbrev pub IsPageFinalOrNone : List Op → ℕ → ℕ → ℕ → ℕ → ℕ → Result (Option Page) Refusal → Type 0
+IsPageFinalOrNone ops t table low high most result = IfOk result (λ found. IfSome found (λ page. IsPageFinal ops t table low high most (Ok page)))

@@ -1,16 +1,17 @@
 -- What a node replies to its readers.
-use Rattle.std.specs.Prelude.{◌≡◌, ◌⊎◌, ℕ, map, nat_lt, if◌then◌else◌, Result, Ok, Err, MatchResult}
+use Rattle.std.specs.Prelude.{◌≡◌, ◌⊎◌, ℕ, map, nat_lt, if◌then◌else◌, Option, MatchOption, Result, Ok, Err, MatchResult}
 use Rattle.std.specs.Option.{option_map}
 use Rattle.hk_types.specs.declared.faults.Refusal.{Refusal}
 use Rattle.hk_types.specs.declared.faults.Refusal.TheVariants.{Damaged, TooOld, Memory}
 use Rattle.hk_model.specs.declared.answer.Answer.{Answer}
 use Rattle.hk_model.specs.declared.front.Front.{Front}
+use Rattle.hk_model.specs.declared.page.Page.{Page}
 use Rattle.hk_model.specs.declared.query.Query.{Query}
 use Rattle.hk_model.specs.declared.query.Query.TheVariants.{Range}
 use Rattle.hk_model.specs.Replica.Answers.{AnswerValue, answer_seen, reply}
 use Rattle.hk_model.specs.Replica.Content.{readable}
 use Rattle.hk_model.specs.Replica.Fragments.{FragmentValue, cut}
-use Rattle.hk_model.specs.Replica.Pages.{PageValue, page_reply}
+use Rattle.hk_model.specs.Replica.Pages.{PageValue, page_reply, page_seen}
 use Rattle.hk_model.specs.Replica.StreamsTold.{StreamsValue}
 use Rattle.hk_marks.specs.Told.{stream_told}
 use Rattle.hk_oplog.specs.NodeContent.{NodeContent}
@@ -63,6 +64,12 @@ GivesOrMemory wanted result = MatchResult result (λ x. wanted ≡ Ok x) (λ why
 -- a call gave what is seen as just this, or memory ran out
 abbrev pub GivesSeen : {X Y : Type 0} → (X → Y) → Result Y Refusal → Result X Refusal → Type 0
 GivesSeen seen wanted result = MatchResult result (λ x. wanted ≡ Ok (seen x)) (λ why. (why ≡ Memory) ⊎ (wanted ≡ Err why))
+
+-- a call that may give up gave just this page, or nothing, or memory ran out
+abbrev pub GivesPageOrNone : NodeContent → ℕ → ℕ → ℕ → ℕ → ℕ → Result (Option Page) Refusal → Type 0
+GivesPageOrNone c t table low high most result =
+    MatchResult result (λ found. MatchOption found (Unit {0}) (λ page. node_page c t table low high most ≡ Ok (page_seen page)))
+    (λ why. (why ≡ Memory) ⊎ (node_page c t table low high most ≡ Err why))
 
 -- an answer as it is seen, with the time that it is of
 abbrev pub timed_seen : ℕ × Answer → ℕ × AnswerValue

@@ -1,6 +1,6 @@
 //! What a copy of the node's state holds, and what operations make of it.
 
-ghost use Rattle.std.specs.Prelude.{◌≡◌, ◌⊎◌, ◌<◌, ◌≤◌, ◌^◌, true, length, None, IsOk, IfOk, IfErr, MatchResult};
+ghost use Rattle.std.specs.Prelude.{◌≡◌, ◌≢◌, ◌⊎◌, ◌<◌, ◌≤◌, ◌^◌, true, length, None, IsOk, IfOk, IfErr, IfSome, IfNone, MatchResult};
 ghost use Rattle.std.specs.Option.{option_map};
 ghost use Rattle.hk_types.specs.declared.faults.Refusal.TheVariants.{Damaged, Memory};
 ghost use Rattle.hk_model.specs.Replica.Fragments.{cut};
@@ -20,7 +20,7 @@ ghost use Rattle.hk_store.specs.Reads.{facts_of_content};
 ghost use Rattle.hk_store.specs.TableLists.{AreTables};
 ghost use Rattle.hk_oplog.specs.Guarded.{AgreesWith};
 ghost use Rattle.hk_oplog.specs.NewItems.{count_new};
-ghost use Rattle.hk_oplog.specs.Replies.{Answers, GivesOrMemory, GivesSeen, timed_seen, node_delta, node_front, node_latest, node_page, node_reply, node_streams, node_whole};
+ghost use Rattle.hk_oplog.specs.Replies.{Answers, GivesOrMemory, GivesPageOrNone, GivesSeen, timed_seen, node_delta, node_front, node_latest, node_page, node_reply, node_streams, node_whole};
 
 use crate::op::{Hold, NodeKind, Op};
 use crate::sizes::{NodeSizes, weight_of};
@@ -28,7 +28,7 @@ use hk_delta::{Fragment, agreed_so, conflicts_with, delta_since, join, whole_of}
 use hk_log::Item;
 use hk_merge::{Sent, join_touches_past, wrong_log};
 use hk_model::{Answer, Front, Page, Query, StreamsTold};
-use hk_query::{ask, latest, page};
+use hk_query::{ask, latest, page, page_within};
 use hk_state::{ReplicaState, front_of};
 use hk_types::{Config, Key, LAST_OP, Refusal, Table, Time};
 use std::alloc::{AllocError, Global};
@@ -546,6 +546,25 @@ impl Body {
         page(alloc, &self.state, time, table, low, high, most)
     }
 
+    /// The same page where it takes at most so many looks at a key, else none.
+    pub fn page_within(
+        &self,
+        alloc: Global,
+        time: Time,
+        table: Table,
+        low: Key,
+        high: Key,
+        most: u32,
+        looks: u64,
+    ) -> Result<Option<Page>, Refusal>
+        ensures { GivesPageOrNone self.now time table low high most result }
+    {
+        if self.damaged {
+            return Err(Refusal::Damaged);
+        }
+        page_within(alloc, &self.state, time, table, low, high, most, looks)
+    }
+
     /// The least pinned time, where a pin is active.
     fn least_held(&self) -> Option<Time>
         ensures { result ≡ option_map (λ h. h.at) (spec.least_hold self.now.holds) }
@@ -591,12 +610,14 @@ impl Body {
         }
     }
 
-    /// The tables of which it holds a row or an end, by rising number, even where it failed. The only error is out of memory. Cost:
-    /// O(t · log n), t tables, n facts.
-    pub fn tables(&self, alloc: Global) -> Result<Vec<Table>, AllocError>
-        ensures { IfOk result (λ tables. AreTables (facts_of_content self.now.content) tables.items) }
+    /// The tables of which it holds a row or an end, by rising number, even where it failed; `None` where they are more than `most`,
+    /// if that is a number. The only error is out of memory. Cost: O(t · log n), t tables, n facts.
+    pub fn tables(&self, alloc: Global, most: Option<u64>) -> Result<Option<Vec<Table>>, AllocError>
+        ensures ok { IfOk result (λ f. IfSome f
+            (λ it. AreTables (facts_of_content self.now.content) it.items)) }
+        ensures gives_up { IfOk result (λ found. IfNone found (most ≢ None)) }
     {
-        self.state.facts().tables(alloc)
+        self.state.facts().tables(alloc, most)
     }
 
     /// Whether its full snapshot, or what it holds since a time above 0, takes more bytes than so many, by a count that is never too high,

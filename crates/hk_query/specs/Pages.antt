@@ -1,5 +1,5 @@
 -- A page beside its definition.
-use Rattle.std.specs.Prelude.{◌≡◌, ◌⊎◌, ◌<◌, ◌+◌, ℕ, true, false, List, [], ◌∷◌, ◌++◌, Result, Ok, Err, IsOk, MatchResult}
+use Rattle.std.specs.Prelude.{◌≡◌, ◌≢◌, ◌⊎◌, ◌<◌, ◌+◌, ℕ, true, false, List, [], ◌∷◌, ◌++◌, Option, None, MatchOption, Result, Ok, Err, IsOk, MatchResult}
 use Rattle.hk_types.specs.Values.{RowValue}
 use Rattle.hk_types.specs.declared.faults.Refusal.{Refusal}
 use Rattle.hk_types.specs.declared.faults.Refusal.TheVariants.{Memory}
@@ -17,6 +17,12 @@ range_page c t table low high most = page_reply most (reply c t (Range table low
 abbrev pub PageReplies : Content → ℕ → ℕ → ℕ → ℕ → ℕ → Result Page Refusal → Type 0
 PageReplies c t table low high most result =
     MatchResult result (λ page. range_page c t table low high most ≡ Ok (page_seen page))
+    (λ why. (range_page c t table low high most ≡ Err why) ⊎ ((why ≡ Memory) × IsOk (range_page c t table low high most)))
+
+-- the same of a call that may give up where its looks are counted
+abbrev pub PageRepliesWithin : Option ℕ → Content → ℕ → ℕ → ℕ → ℕ → ℕ → Result (Option Page) Refusal → Type 0
+PageRepliesWithin looks c t table low high most result =
+    MatchResult result (λ found. MatchOption found (looks ≢ None) (λ page. range_page c t table low high most ≡ Ok (page_seen page)))
     (λ why. (range_page c t table low high most ≡ Err why) ⊎ ((why ≡ Memory) × IsOk (range_page c t table low high most)))
 
 -- the key of the last of these rows, or else this one

@@ -7,5 +7,5 @@ mod reply;
 
 pub use answers::answer_at;
 pub use hk_model::{Answer, Page, Query};
-pub use pages::{page, pages_law};
+pub use pages::{page, page_within, pages_law};
 pub use reply::{ask, latest, row_at};

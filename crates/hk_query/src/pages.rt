@@ -1,12 +1,34 @@
 //! Pages of a state's rows.
 
-ghost use Rattle.hk_query.specs.Pages.{PageReplies, PagesEnd, PagesGoOn};
+ghost use Rattle.std.specs.Prelude.{Some};
+ghost use Rattle.hk_query.specs.Pages.{PageReplies, PageRepliesWithin, PagesEnd, PagesGoOn};
 
 use crate::reply::time_refusal;
 use hk_model::{PAGE_BYTES, Page};
 use hk_state::ReplicaState;
 use hk_types::{Key, Refusal, Table, Time};
 use std::alloc::Global;
+
+/// The page that `page` gives, or none where it would look at more keys than `looks`, if that is a number.
+fn page_looking(
+    alloc: Global,
+    state: &ReplicaState,
+    time: Time,
+    table: Table,
+    low: Key,
+    high: Key,
+    most: u32,
+    looks: Option<u64>,
+) -> Result<Option<Page>, Refusal>
+    ensures { PageRepliesWithin looks state.now time table low high most result }
+{
+    match time_refusal(state, time) {
+        Some(why) => Err(why),
+        None => state
+            .facts()
+            .page(alloc, time, table, low, high, looks, most, PAGE_BYTES),
+    }
+}
 
 /// The first page of the rows of a table with keys from `low` to `high`, both inside, that are visible at a time in a
 /// state: at most `most` of them, and no more than `PAGE_BYTES` has room for; and whether more follow. The page after
@@ -26,12 +48,27 @@ pub fn page(
 ) -> Result<Page, Refusal>
     ensures { PageReplies state.now time table low high most result }
 {
-    match time_refusal(state, time) {
-        Some(why) => Err(why),
-        None => state
-            .facts()
-            .page(alloc, table, low, high, time, most, PAGE_BYTES),
+    match page_looking(alloc, state, time, table, low, high, most, None)? {
+        Some(page) => Ok(page),
+        None => Err(Refusal::Memory),
     }
+}
+
+/// The same page where it takes at most so many looks at a key of which anything is known; else `None`, and nothing of it is
+/// made. A refusal as that of `page` takes no look. Cost: that of `page`, with at most `looks` keys.
+pub fn page_within(
+    alloc: Global,
+    state: &ReplicaState,
+    time: Time,
+    table: Table,
+    low: Key,
+    high: Key,
+    most: u32,
+    looks: u64,
+) -> Result<Option<Page>, Refusal>
+    ensures { PageRepliesWithin (Some looks) state.now time table low high most result }
+{
+    page_looking(alloc, state, time, table, low, high, most, Some(looks))
 }
 
 /// Pages that are asked one after another, each with `low` above the last key of the one before, are together the rows of their

@@ -51,6 +51,17 @@ abbrev pub first_awaited : List Request → Option (ℕ × ℕ)
 first_awaited [] = None
 first_awaited (request ∷ rest) = awaited request
 
+-- the first of the requests
+abbrev pub first_of : List Request → Option Request
+first_of [] = None
+first_of (request ∷ rest) = Some request
+
+-- the first of the requests was answered so, and its reply is kept; or a reply was kept, or there is no request, and nothing changed
+abbrev pub AnswersFirst : SessionValue → SessionValue → Reply → Type 0
+AnswersFirst before after reply =
+    ((request : Request) × (rest : List Request) × (before.requests ≡ request ∷ rest) × (before.kept ≡ None) × (after ≡ record before { requests = rest; kept = Some reply; begun = 0 }))
+    ⊎ (((before.requests ≡ []) ⊎ (before.kept ≢ None)) × (after ≡ before))
+
 -- there is no request, or the first is an `Await` that wasn't waited for
 abbrev pub HasNoNext : Bool → List Request → Type 0
 HasNoNext waited requests = (requests ≡ []) ⊎ ((waited ≡ false) × (first_awaited requests ≢ None))

@@ -1,5 +1,6 @@
 pub use Rattle.hk_chains.specs.Facts
 pub use Rattle.hk_chains.specs.Reads
+pub use Rattle.hk_chains.specs.Paging
 pub use Rattle.hk_chains.specs.Drops
 pub use Rattle.hk_chains.specs.Versions
 pub use Rattle.hk_chains.specs.Indexed

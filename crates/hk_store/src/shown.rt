@@ -5,7 +5,7 @@ ghost use Rattle.std.specs.Option.{option_copied};
 ghost use Rattle.std.specs.FinMap as finmap;
 ghost use Rattle.hk_types.specs.declared.faults.Refusal.TheVariants.{Memory};
 ghost use Rattle.hk_model.specs.Replica.Answers.{visible, rows_where};
-ghost use Rattle.hk_model.specs.Replica.Pages.{page_of, page_seen};
+ghost use Rattle.hk_chains.specs.Paging.{IsPageWithin};
 ghost use Rattle.hk_chains.specs.Reads.{with_facts, rows_ranged};
 
 use crate::facts::Facts;
@@ -44,26 +44,24 @@ impl Facts {
         Ok(rows)
     }
 
-    /// The first page of the rows of a table with keys from `low` to `high`, both inside, that show at a time, by
-    /// rising key: copies of at most `most` of them, of at most `room` bytes with 14 for each row beside its body, but
-    /// of the first one whatever its size; and whether more follow. Where `low` is above `high` there are none. The only
-    /// refusal is `Memory`. Cost: O(log n + k · log n + b), n facts, k keys of which anything is known from low up to
-    /// the first row that is left out, b bytes of the bodies that are copied.
+    /// The page of `Chains::page`, or none where that gives up. The only refusal is `Memory`. Cost: as that.
     pub fn page(
         &self,
         alloc: Global,
+        time: Time,
         table: Table,
         low: Key,
         high: Key,
-        time: Time,
+        looks: Option<u64>,
         most: u32,
         room: u64,
-    ) -> Result<Page, Refusal>
-        ensures ok { IfOk result (λ page. page_seen page
-            ≡ page_of most room (rows_ranged self.now time table low high)) }
+    ) -> Result<Option<Page>, Refusal>
+        ensures ok { IsPageWithin looks most room (rows_ranged self.now time table low high) result }
         ensures err { IfErr result (λ why. why ≡ Memory) }
     {
-        let page = self.chains.page(alloc, table, low, high, time, most, room)?;
+        let page = self
+            .chains
+            .page(alloc, table, low, high, time, most, room, looks)?;
         Ok(page)
     }
 }

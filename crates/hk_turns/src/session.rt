@@ -2,7 +2,7 @@
 
 ghost use Rattle.std.specs.Prelude.{◌≡◌, ◌≢◌, ◌⊎◌, ◌≤◌, ◌++◌, ℕ, List, [], ◌∷◌, false, length, nat_lt, Ok, Some, None, IfSome, IfNone, OnOk, OnErr};
 ghost use Rattle.hk_session_parts.specs.Transcript.{fault_of};
-ghost use Rattle.hk_session_parts.specs.Sessions.{AppendsKept, Closes, ClosesBy, Continues, HasNoNext, IsStanding, IsWithoutMemory, Pauses, ReadIn, Takes, Turns, awaited, first_awaited};
+ghost use Rattle.hk_session_parts.specs.Sessions.{AnswersFirst, AppendsKept, Closes, ClosesBy, Continues, HasNoNext, IsStanding, IsWithoutMemory, Pauses, ReadIn, Takes, Turns, awaited, first_awaited, first_of};
 
 use hk_session_parts::sending::{put_piece, refuse};
 use hk_session_parts::taking::take_in;
@@ -181,6 +181,14 @@ impl<const LATEST: u8> Session<LATEST> {
         }
     }
 
+    /// The first of the requests that wait, where one does. Cost: O(1).
+    pub fn first_request(&self) -> Option<&Request>
+        ensures some { IfSome result (λ request. first_of self.now.requests ≡ Some request.now) }
+        ensures none { IfNone result (self.now.requests ≡ []) }
+    {
+        self.waiting.front()
+    }
+
     /// The next request to be answered, which waits no longer: none where there is none, or where it is an `Await` that
     /// wasn't waited for. Where there is none, their room is given back.
     fn next(&mut self, waited: bool) -> Option<Request>
@@ -198,6 +206,26 @@ impl<const LATEST: u8> Session<LATEST> {
                 self.waiting = VecDeque::new(self.alloc);
                 None
             }
+        }
+    }
+
+    /// Keeps a reply to the first of the requests that wait, which waits no longer: the next call appends it, and asks the host for
+    /// none. Where a reply is kept already, or no request waits, nothing changes, and the reply is handed back. Cost: O(1).
+    pub fn put_reply(&mut self, reply: Reply) -> Option<Reply>
+        ensures answers { AnswersFirst self.old self.new reply }
+        ensures taken { IfNone result (self.new.kept ≡ Some reply) }
+        ensures back { IfSome result (λ _. self.new ≡ self.old) }
+    {
+        if self.kept.is_some() {
+            return Some(reply);
+        }
+        match self.next(true) {
+            Some(answered) => {
+                drop(answered);
+                self.keep(reply);
+                None
+            }
+            None => Some(reply),
         }
     }
 

@@ -1,6 +1,7 @@
 //! The program `hkrep`.
 #![tactic(auto)]
 
+mod nothing;
 mod watched;
 mod whole_file;
 
@@ -12,7 +13,7 @@ use hk_cli::{
     run_rewrite, run_serve, run_status, run_stay, run_world,
 };
 use hk_cli_arguments::read_call;
-use hk_cli_calls::{Alone, Call, NodeCall};
+use hk_cli_calls::{Alone, Call, Kept, NodeCall};
 use std::alloc::Global;
 use std::env::VarError;
 use std::fs::{File, Files};
@@ -29,6 +30,13 @@ const NO_OUTPUT: &[u8] = b"stopped: the output can't be written; see where stand
 
 /// The line where a file can't be made and there is no memory to say which.
 const NO_FILE: &[u8] = b"stopped: the file can't be made, and there is no memory to say why\n";
+
+/// The line where the snapshot of a node that has nothing would take the place of a file that has something, and there is no memory to
+/// say which.
+const NOTHING: &[u8] = b"stopped: the node has nothing, and the file has something: it stays\n";
+
+/// The status where it stays.
+const STAYS: u8 = 3;
 
 /// The line of a command that reads item frames from a terminal.
 const READING: &[u8] =
@@ -94,7 +102,11 @@ fn tell_reading<E: Write>(terminal: Terminal, call: &Alone, errors: &mut E) {
     }
 }
 
-/// Prints that a file can't be made or written, in the system's words.
+/// What is wrong with a name that stands for something else than a plain file.
+const NO_PLAIN_FILE: &str =
+    "it is a device, a pipe or a folder, which no file takes the place of; '> FILE' writes to a device or a pipe";
+
+/// Prints that a file can't be made or written, in the system's words, or that it is no plain file.
 fn tell_no_file<E: Write>(
     alloc: Global,
     what: &str,
@@ -102,7 +114,11 @@ fn tell_no_file<E: Write>(
     error: &io::Error,
     errors: &mut E,
 ) {
-    let line = format!(in alloc; "stopped: can't {what} the file {name}: {error}\n");
+    let line = if error.kind() == ErrorKind::InvalidInput {
+        format!(in alloc; "stopped: can't {what} the file {name}: {NO_PLAIN_FILE}\n")
+    } else {
+        format!(in alloc; "stopped: can't {what} the file {name}: {error}\n")
+    };
     let _told = match line {
         Ok(line) => errors.write_all(line.as_bytes()),
         Err(_memory) => errors.write_all(NO_FILE),
@@ -135,18 +151,38 @@ fn run_script<R: Files + Alloc<A = Global>, I: Read, W: Write, E: Write>(
     }
 }
 
-/// Puts a file in its place where the order that wrote it ended with 0, and removes it else. Returns the status.
-fn placed<R: Files<File = File> + Alloc<A = Global>, E: Write>(
+/// Prints that a file stays, since the node has nothing.
+fn tell_stays<E: Write>(alloc: Global, name: &str, errors: &mut E) {
+    let line = format!(in alloc;
+        "stopped: the node has nothing, and the file {name} has something: it stays; --force replaces it\n"
+    );
+    let _told = match line {
+        Ok(line) => errors.write_all(line.as_bytes()),
+        Err(_memory) => errors.write_all(NOTHING),
+    };
+}
+
+/// Keeps what a file had before under its second name. Where that can't be, as where a file has one name at most, a line says so.
+fn keep_before<R: Files + Alloc<A = Global>, E: Write>(rt: &R, whole: &WholeFile, errors: &mut E) {
+    if let Err(error) = whole.keep_before(rt) {
+        tell_no_file(
+            rt.alloc(),
+            "keep what was before as",
+            whole.before.as_str(),
+            &error,
+            errors,
+        );
+    }
+}
+
+/// Puts a file in its place, which it is whole for. Returns the status.
+fn finished<R: Files<File = File> + Alloc<A = Global>, E: Write>(
     rt: &R,
     whole: &WholeFile,
-    status: u8,
     name: &str,
     errors: &mut E,
 ) -> u8 {
-    if status > 0 {
-        whole.leave(rt);
-        return status;
-    }
+    keep_before(rt, whole, errors);
     match whole.finish(rt) {
         Ok(()) => 0,
         Err(error) => {
@@ -156,13 +192,34 @@ fn placed<R: Files<File = File> + Alloc<A = Global>, E: Write>(
     }
 }
 
+/// Puts a file in its place where the order that wrote it ended with 0, and removes it else, or where it has nothing and the other has
+/// something. Returns the status.
+fn placed<R: Files<File = File> + Alloc<A = Global>, E: Write>(
+    rt: &R,
+    whole: &WholeFile,
+    status: u8,
+    kept: &Kept<'_>,
+    errors: &mut E,
+) -> u8 {
+    if status > 0 {
+        whole.leave(rt);
+        return status;
+    }
+    if !kept.is_forced && whole.would_lose(rt).unwrap_or(false) {
+        whole.leave(rt);
+        tell_stays(rt.alloc(), kept.name, errors);
+        return STAYS;
+    }
+    finished(rt, whole, kept.name, errors)
+}
+
 /// The status of an order to a node whose output goes into the file of this name: all of it, or the file stays as it was.
 fn run_into<R, I: Read, E: Write>(
     rt: &R,
     input: &mut I,
     terminal: Terminal,
     call: &NodeCall<'_>,
-    name: &str,
+    kept: &Kept<'_>,
     errors: &mut E,
 ) -> u8
 where
@@ -170,13 +227,13 @@ where
     R: Files<File = File> + Alloc<A = Global>,
 {
     let alloc = rt.alloc();
-    match WholeFile::new(rt, name) {
+    match WholeFile::new(rt, kept.name) {
         Ok(mut whole) => {
             let status = run_order(rt, alloc, call, input, terminal, &mut whole.file, errors);
-            placed(rt, &whole, status, name, errors)
+            placed(rt, &whole, status, kept, errors)
         }
         Err(error) => {
-            tell_no_file(alloc, "make", name, &error, errors);
+            tell_no_file(alloc, "make", kept.name, &error, errors);
             1
         }
     }
@@ -216,7 +273,7 @@ where
             )
         }
         Call::Stay(config, stay) => run_stay(rt, *config, stay, &mut output, errors),
-        Call::Into(call, name) => run_into(rt, input, terminal, call, name, errors),
+        Call::Into(call, kept) => run_into(rt, input, terminal, call, kept, errors),
         Call::Node(call) => {
             run_order(rt, rt.alloc(), call, input, terminal, &mut output, errors)
         }

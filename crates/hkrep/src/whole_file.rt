@@ -1,5 +1,6 @@
-//! A file that is written whole: what it had before stays until all of the new is there.
+//! A file that is written whole: what it had before stays until all of the new is there, and is in a second file then.
 
+use crate::nothing::has_nothing;
 use std::alloc::Global;
 use std::fs::{File, Files, OpenOptions};
 use std::io::ErrorKind;
@@ -8,6 +9,9 @@ use std::{fs, io};
 
 /// What stands behind a file's name in that of the file beside it.
 const BESIDE: &str = ".part";
+
+/// What stands behind it in that of the file that has what was there before.
+const BEFORE: &str = ".1";
 
 /// How often a file beside is opened that another writer put in its place meanwhile.
 const MOST_TRIES: u64 = 1_000;
@@ -19,6 +23,8 @@ pub(crate) struct WholeFile {
     pub(crate) file: File,
     name: String,
     beside: String,
+    /// The file that has what was there before.
+    pub(crate) before: String,
 }
 
 /// The name of the file that is meant: where a link leads, if it is one. A device or a folder is refused.
@@ -63,6 +69,14 @@ fn locked<R: Files<File = File>>(rt: &R, name: &str) -> io::Result<File> {
     Err(ErrorKind::WouldBlock.into())
 }
 
+/// Gives a file a second name, in place of a file that has that name. The first name stays.
+fn named_too<R: Files + Alloc<A = Global>>(rt: &R, name: &str, second: &str) -> io::Result<()> {
+    let new = format!(in rt.alloc(); "{second}{BESIDE}")?;
+    let _old = fs::remove_file(rt, new.as_str());
+    fs::hard_link(rt, name, new.as_str())?;
+    fs::rename(rt, new.as_str(), second)
+}
+
 /// Has the system keep the names of a file's folder, where it can.
 fn sync_folder<R: Files<File = File>>(rt: &R, name: &str) {
     let folder = match name.rsplit_once('/') {
@@ -83,8 +97,27 @@ impl WholeFile {
     ) -> io::Result<WholeFile> {
         let name = plain_name(rt, name)?;
         let beside = format!(in rt.alloc(); "{name}{BESIDE}")?;
+        let before = format!(in rt.alloc(); "{name}{BEFORE}")?;
         let file = locked(rt, beside.as_str())?;
-        Ok(WholeFile { file, name, beside })
+        Ok(WholeFile {
+            file,
+            name,
+            beside,
+            before,
+        })
+    }
+
+    /// Whether it is the snapshot of a node that has nothing, and the other has something.
+    pub(crate) fn would_lose<R: Files + Alloc<A = Global>>(&self, rt: &R) -> io::Result<bool> {
+        Ok(has_nothing(rt, self.beside.as_str())? && !has_nothing(rt, self.name.as_str())?)
+    }
+
+    /// Keeps the other under the name of what was there before, if it has something. Both names are its own then.
+    pub(crate) fn keep_before<R: Files + Alloc<A = Global>>(&self, rt: &R) -> io::Result<()> {
+        if has_nothing(rt, self.name.as_str())? {
+            return Ok(());
+        }
+        named_too(rt, self.name.as_str(), self.before.as_str())
     }
 
     /// Puts it in the place of the other, once the system keeps all of it. Where that fails the other stays.

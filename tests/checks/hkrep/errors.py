@@ -57,6 +57,31 @@ def explained():
     check_bad_line("explain of no name", ["explain", "Nothing"], ["invalid value 'Nothing'", "no refusal has this number or name"])
 
 
+def kinds_of(table):
+    """The kinds of the tables with this head in docs/FORMATS.md, in their order."""
+    text = (ROOT / "docs" / "FORMATS.md").read_text()
+    return [int(kind) for rows in re.findall(rf"^\| Kind \| {table} \| Body \|\n\|[-|]+\n((?:\|.*\n)+)", text, re.M) for kind in re.findall(r"^\| (\d+) \|", rows, re.M)]
+
+
+def spans(kinds):
+    """The kinds as the words have them: runs of consecutive ones."""
+    ends = [kind for kind in kinds if kind + 1 not in kinds]
+    begins = [kind for kind in kinds if kind - 1 not in kinds]
+    return " or ".join(f"{begin} to {end}" for begin, end in zip(begins, ends))
+
+
+def kinds():
+    """`explain 4` has the kinds of docs/FORMATS.md, and a request of each of them that is read as items is told as one."""
+    requests, replies = kinds_of("Request"), kinds_of("Reply")
+    told = run(["explain", "4"]).stdout.decode()
+    problems = [] if f"requests {spans(requests)}, replies {spans(replies)}\n" in told else [f"explain 4 says {told!r}, wanted {spans(requests)} and {spans(replies)}"]
+    for kind in range(256):
+        done = run(["items"], bytes([0, 0, 0, 2, 1 if kind < 48 else 2, kind])).stderr.decode()
+        if ("give it to 'hkrep load', or to 'hkrep push'" in done) != (kind in requests):
+            problems.append(f"items of kind {kind}: {done!r}")
+    report("the kinds of messages, in words", problems)
+
+
 def command_lines():
     usage = ["error", "--help"]
     check_bad_line("a plus sign", ["at", "--log", "7", "--streams", "1", "+7", "1", "5"], ["+7"])
@@ -93,4 +118,4 @@ def command_lines():
           "begun 1 at 0\nok\ncommitted 1\nmark stream 1 n 1 m 1\ntaken\nfront horizon 0 readable 0\ntaken\n9 41\n")
 
 
-CHECKS = (reasons, explained, command_lines)
+CHECKS = (reasons, explained, kinds, command_lines)

@@ -97,6 +97,10 @@ STREAM: List[Tuple[Family, Callable[[StreamState], Value]]] = [
 
 TOLD: List[Tuple[Family, Callable[[Stats], Any]]] = [
     (Family("vadungsil_node_memory_bytes", "gauge", "Bytes of memory of the node's process."), lambda it: it.memory),
+    (
+        Family("vadungsil_node_memory_limit_bytes", "gauge", "Bytes of address space that it may take."),
+        lambda it: it.memory_limit,
+    ),
     (Family("vadungsil_node_run_seconds", "gauge", "Seconds since the node started."), lambda it: it.seconds),
     (
         Family("vadungsil_node_guarded", "gauge", "Whether the node refuses data that conflicts."),

@@ -24,5 +24,5 @@ loop-next-preserved-in-Some-checked_add c =
     let number = c.new-in-Some-checked_add.ensures ∙ c.in-Some-checked_add.ensures.1 ∙ ap (λ n. n + 1) c.number.ensures in
     rw c.in_ok-push.ensures.items (listed_more f c.loop-next.tables.items c.in-Some.table next are (subst (λ n. IsFound f n next) number found))
 
-pub returns : goal.returns
-returns c = all_are c.args.self.now c.loop-next.tables.items (subst (AreListed c.args.self.now c.loop-next.tables.items) c.in_default.is c.loop-next.invariant)
+pub returns-clause-ok : goal.returns-clause-ok
+returns-clause-ok c = all_are c.args.self.now c.loop-next.tables.items (subst (AreListed c.args.self.now c.loop-next.tables.items) c.in_default.is c.loop-next.invariant)
