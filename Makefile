@@ -12,9 +12,12 @@
 # make test   the one test command: every proof from nothing, the must-fail edits, the tests, then the end-to-end checks
 # make compare CASES=100000 SEED=7   that many random cases beside tests/lib/reference.py, once bin/hkrep is built
 # make lib    proves and builds the library for programs in C and other languages: lib/libhekaton.a and .so (docs/EMBEDDING.md)
+# make quick-lib  makes it in minutes without any proof, which hk_version and hekaton.pc say
 # make install PREFIX=/usr/local DESTDIR=   puts the program, the library, the Python client, manual pages, completions and examples there
 # make package   makes a Debian package, a plain tar and a wheel in dist/ (docs/RELEASE.md); for both, make and make lib, or make test, go before
 # make crate NAME=hk_store   the verdict on one crate in about a minute: layout, words, that its edits fit, its proof; EDITS=1 tries the edits too
+# make fn NAME=hk_store::replace::put   the verdict on one function and what it calls, with nothing below built or proved: minutes (docs/CONTRIBUTING.md)
+# make edits NAME=hk_store   the must-fail edits of a crate, all together in as few checks as can be (docs/CONTRIBUTING.md)
 # make lint   the Python of clients/python and connectors: layout, style, types (apt-get install black pycodestyle mypy)
 # make hooks  puts a check of some seconds before each commit of this checkout (tests/tools/pre-commit)
 # make measures   draws the pictures of docs/measures anew from their figures (python3-matplotlib)
@@ -24,7 +27,7 @@ PREFIX = /usr/local
 # what demonstrations take: the proved program, else the one of make quick, where that alone is there
 PROGRAM = $(firstword $(wildcard bin/hkrep) $(wildcard bin/hkrep-unproved) bin/hkrep)
 
-.PHONY: all quick try test lib install package crate lint hooks measures demo serve-demo redis-demo nats-demo shop-demo engine-lab look compare bench clean
+.PHONY: all quick quick-lib try test lib install package crate fn edits lint hooks measures demo serve-demo redis-demo nats-demo shop-demo engine-lab look compare bench clean
 
 CASES = 10000
 SEED = 1
@@ -38,10 +41,13 @@ bin/hkrep: $(SOURCES) tests/tools/build
 	tests/tools/build
 	touch bin/hkrep
 
-bin/hkrep-unproved: $(SOURCES) VERSION tests/tools/quick tests/tools/plain_module.py
+bin/hkrep-unproved: $(SOURCES) VERSION tests/tools/quick tests/tools/plain_build.py tests/tools/plain_module.py
 	tests/tools/quick
 
 quick: bin/hkrep-unproved
+
+quick-lib:
+	tests/tools/library --unproved
 
 lib:
 	tests/tools/library
@@ -84,6 +90,12 @@ compare:
 
 crate:
 	tests/tools/crate $(NAME) $(if $(EDITS),--edits)
+
+fn:
+	tests/tools/fn $(NAME)
+
+edits:
+	tests/tools/edits $(NAME)
 
 lint:
 	tests/checks/lint.py

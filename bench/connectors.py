@@ -38,7 +38,7 @@ class Measure:
 
     def node(self):
         port = free_port()
-        return port, self.it.start_node(port, "--stay", "-q")
+        return port, self.it.start_node(port, "-q")
 
     def timed(self, name, words, taken_off=(0.0, 0.0), source=None):
         """Runs a program; keeps frames a second, and microseconds of its processor a frame, without what starting it takes."""
@@ -93,7 +93,7 @@ def used():
 def lateness(it, folder, url, count):
     """An entry and the marks of all streams are written to a publisher, until the node can be read up to them."""
     port, late = free_port(), []
-    it.start_node(port, "--stay", "-q")
+    it.start_node(port, "-q")
     it.start(folder / "follow", *url, *WORDS, "--node", port)
     writer = it.start(folder / "publish", *url, *WORDS, "--heads", stdin=subprocess.PIPE)
     numbers = {stream: sum(journeys.is_entry(frame) and journeys.stream_of(frame) == stream for frame in it.frames)

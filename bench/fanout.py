@@ -111,7 +111,7 @@ def measured(seconds, count, is_one):
         try:
             it.servers.begin()
             ports = [free_port() for _ in range(count)]
-            nodes = [it.start_node(port, "--stay", "-q") for port in ports]
+            nodes = [it.start_node(port, "-q") for port in ports]
             words = [("--node", port) for port in ports]
             words = [[word for two in words for word in two]] if is_one else words
             followers = [it.start(engine.CONNECTORS / "follow", *it.url(), *WORDS, *its) for its in words]

@@ -110,8 +110,16 @@ def wanted(path, made_by):
 
 
 def has_library(program, lib):
-    """Whether the library for C goes too: always beside a proved program; beside one without proofs where it is there."""
+    """Whether the library for C goes too: always beside a proved program, and then it is proved; beside one without proofs where it is there."""
+    if not is_unproved(program) and is_unproved_library(lib):
+        sys.exit(f"{lib} has the library of make quick-lib, without a proof, beside a program that is proved: make lib makes the proved one")
     return not is_unproved(program) or (lib / "libhekaton.so").exists()
+
+
+def is_unproved_library(lib):
+    """Whether a folder has a library for C that says of itself, by hk_version, that it is unproved."""
+    files = [it for it in (lib / "libhekaton.a", lib / "libhekaton.so") if it.exists()]
+    return any(f"{VERSION} unproved\0".encode() in it.read_bytes() for it in files)
 
 
 def in_c(tree, lib):

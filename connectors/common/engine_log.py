@@ -6,7 +6,9 @@ import abc
 import argparse
 from typing import Any, Callable, Dict, Iterator, List, NamedTuple, Optional, Tuple, Type
 
-from blocks import BLOCK_BYTES, BLOCK_FRAMES, Block, Broken, Framed, closed, entries_of, no_block, time_of
+import feeding  # noqa: F401, finds the package
+from vadungsil.blocks import BLOCK_BYTES, BLOCK_FRAMES, Block, Framed, closed, entries_of, no_block, time_of
+from vadungsil.errors import Broken
 
 USAGE = 64
 
@@ -18,6 +20,20 @@ class Moved(Exception):
 class Behind(Exception):
     """The engine has less than it had. A server that was cut off answers so, and doesn't know it: a later try may find
     all."""
+
+
+class Missing(Broken):
+    """Entries that an engine no longer has: {stream: (from, to)}."""
+
+    def __init__(self, engine: str, lacking: Dict[int, Tuple[int, int]]) -> None:
+        super().__init__(
+            3,
+            "; ".join(
+                f"stream {stream}: entries {low} to {high} are no longer in {engine}"
+                for stream, (low, high) in sorted(lacking.items())
+            ),
+        )
+        self.lacking = lacking
 
 
 class Tail(NamedTuple):

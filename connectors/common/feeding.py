@@ -31,7 +31,7 @@ from vadungsil.requests import FRONT, FULL, read_done, read_fragment, read_front
 from vadungsil.values import LAST_TIME, Delta, Front, Stream  # noqa: E402
 
 if TYPE_CHECKING:
-    from blocks import Block
+    from vadungsil.blocks import Block
 
 # what the package has that connectors take from here, beside what stands below
 __all__ = [

@@ -9,8 +9,7 @@ import threading
 import time
 from typing import Any, Callable, Dict, List, NamedTuple, Optional, Tuple, Type
 
-from blocks import Block, Broken, Missing, entries_of
-from engine_log import Behind, EngineLog, Reading
+from engine_log import Behind, EngineLog, Missing, Reading
 from feeding import (
     ELSE,
     Certificates,
@@ -26,6 +25,8 @@ from feeding import (
     usual,
 )
 from sharing import SharedReading, Window
+from vadungsil.blocks import Block, entries_of
+from vadungsil.errors import Broken
 from vadungsil.node import Node
 
 STATUSES = """status: 0 as far as was asked for; 1 a failure, with --once, or ENGINE refuses; 2 the log forks:

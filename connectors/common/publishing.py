@@ -9,9 +9,10 @@ import select
 import time
 from typing import Any, BinaryIO, Callable, Deque, Dict, Iterable, Iterator, List, Optional, Tuple, Type
 
-from blocks import Block, Broken, Cutter, Framed, Line, in_blocks
 from engine_log import Behind, EngineLog, Moved, Tail
 from feeding import Fault, Patience, decode
+from vadungsil.blocks import Block, Cutter, Framed, Line, in_blocks
+from vadungsil.errors import Broken
 
 MOST_EARLY = 2**28  # bytes of entries that wait for those before them
 

@@ -5,9 +5,9 @@ import argparse
 import time
 from typing import Any, Callable, List, Optional, Tuple
 
-from blocks import Broken
 from engine_log import EngineLog
 from feeding import Certificates, Feed, LinkBroken, Refused, Stream, add_node_words, node_certificates, short
+from vadungsil.errors import Broken
 
 
 class Asked:

@@ -7,8 +7,8 @@ import time
 from collections import deque
 from typing import Any, Deque, Dict, List, NamedTuple, Optional, Tuple
 
-from blocks import Block
 from engine_log import EngineLog, Reading
+from vadungsil.blocks import Block
 
 Found = List[Tuple[int, Any, Block]]
 

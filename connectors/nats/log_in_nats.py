@@ -1,5 +1,5 @@
 """A log in NATS JetStream: stream S of log L is the JetStream stream `hekaton_L_S`, of the subject `hekaton.L.S`, with
-three replicas; a message is a block (connectors/common/blocks.py), whose header Hk-Last has the number of its last
+three replicas; a message is a block (vadungsil/blocks.py), whose header Hk-Last has the number of its last
 entry, and Hk-Sum its SHA-256 in hexadecimal digits.
 
 Each append names the sequence of the message that it stands behind (Nats-Expected-Last-Sequence), so two writers can't
@@ -22,9 +22,9 @@ sys.dont_write_bytecode = True
 HERE = pathlib.Path(__file__).resolve().parent
 sys.path[:0] = [str(HERE), str(HERE.parent / "common")]
 
-from blocks import BLOCK_BYTES, Block, no_block, see_sum, sum_of, walked  # noqa: E402
 from engine_log import EngineLog, Moved, Reading, add_log_words, see_log  # noqa: E402
 from jetstream import ApiError, Away, Denied, Message, Nats, Security, see_version, versions  # noqa: E402
+from vadungsil.blocks import BLOCK_BYTES, Block, no_block, see_sum, sum_of, walked  # noqa: E402
 
 WRONG_LAST, IN_USE, NO_STREAM = 10_071, 10_058, 10_059
 

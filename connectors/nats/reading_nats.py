@@ -5,10 +5,10 @@ import json
 import time
 from typing import Deque, Dict, List, Optional, Tuple
 
-from blocks import Block
 from engine_log import Reading
 from jetstream import Away, Late, Message, Nats
 from log_in_nats import LogInNats
+from vadungsil.blocks import Block
 
 # how many bytes are taken in one go, so that the node isn't waited with; and how many are asked for ahead at most, of
 # all streams: a server gives up a link to which it can't write for some seconds, so they should have room in the

@@ -3,6 +3,7 @@ from __future__ import annotations
 
 import itertools
 import json
+import os
 import time
 from typing import Any, Dict, List, Optional, Tuple
 
@@ -11,13 +12,14 @@ from feeding import Patience, short
 import psycopg2
 
 from catalog import Catalog, is_passing
-from confirming import RIGHTS, Origin, see_slot
+from confirming import Origin, see_slot
 from keeping import Kept
 from log import Changes, Log
 from pgoutput import UNCHANGED, Begin, Change, Commit, Message, Relation, Value, Values, Word
 from schemas import REMEMBERED, Schemas, renamed
 from shapes import Shape, Written, under_names
 from source import PREFIX, Source
+from vadungsil.identity import IDENTITY, MOMENTS, TERM, Identity
 from vadungsil.postgres import COMMIT, HEAD, TABLES, place_of
 from vadungsil.values import MOST_BODY
 from watching import Watch
@@ -45,9 +47,14 @@ class Capture:
         hashed = tuple(it.table.number for it in self.shapes.values() if it.is_hashed)
         self.log = Log(said.log, said.parts, hashed, self.put, self.source.live)
         self.now: Dict[int, Tuple[Relation, Optional[Shape]]] = {}  # relations as described last, and their shapes
-        self.changes, self.xid, self.lsn, self.is_there = Changes(), 0, 0, False
+        self.changes, self.xid, self.lsn, self.is_there = self.none(), 0, 0, False
         self.waiting = self.beaten = self.flushed = 0
         self.tried = self.told = 0.0
+        self.owes_term = False  # whether this capture hasn't said yet that it writes the log
+
+    def none(self) -> Changes:
+        """Of a transaction of which nothing has come."""
+        return Changes(self.source.live)
 
     def put(self, frame: bytes) -> None:
         self.kept.put(frame)
@@ -88,13 +95,13 @@ class Capture:
         if not self.origin.is_allowed:
             self.patience.say(
                 "this user may not use replication origins, so a lost tail may be reported where none is: grant "
-                f"execute on function {', '.join(RIGHTS)}"
+                f"execute on function {', '.join(self.origin.lacking)}"
             )
         if not self.log.standing.transaction:
             self.load()
             return
         wanted, own = self.own_rows(), {key for key in self.log.own if key < REMEMBERED}
-        for key in sorted({*wanted, *own} - {COMMIT}):
+        for key in sorted({*wanted, *own} - {COMMIT, IDENTITY, TERM}):
             begun, now = (rows.get(key, b"nothing of that").decode() for rows in (self.log.own, wanted))
             if begun != now:
                 raise Broken(
@@ -105,11 +112,14 @@ class Capture:
                 )
         see_slot(self.said, self.catalog, self.origin, self.log.standing.lsn, self.kept.name)
         self.schemas.learn(self.log.own)
+        self.owes_term = IDENTITY in self.log.own  # a log of before has none
         self.watch.go_on(self.schemas.publication, self.log.standing.lsn)
         self.schemas.publication = self.watch.text()
 
     def load(self) -> None:
         """The rows that stand are the first transaction. What an earlier load left is written over."""
+        for shape in self.shapes.values():
+            self.catalog.see_rights(shape)
         if self.catalog.slot() is not None:
             if not self.log.number:
                 raise Broken(
@@ -120,7 +130,8 @@ class Capture:
                 )
             self.catalog.drop_slot()
         self.origin.drop()
-        self.log.load_begin(self.own_rows())
+        identity = self.log.own.get(IDENTITY) or Identity(os.urandom(16), 0, MOMENTS).body()
+        self.log.load_begin({**self.own_rows(), IDENTITY: identity, TERM: self.log.next_term()})
         self.kept.flush()
         lsn, snapshot = self.source.make_slot(self.patience.say)
         loading = Changes()
@@ -193,7 +204,7 @@ class Capture:
     def truncate(self, number: int) -> None:
         """All rows of a table go: those that stand, and those that this transaction put."""
         came = [key for (table, key), row in self.changes.rows.ordered() if table == number and row is not None]
-        for key in itertools.chain(self.log.births.table(number), came):
+        for key in self.changes.rows.lively(itertools.chain(self.log.births.table(number), came)):
             self.changes.remove(number, key)
 
     def whole(self, shape: Shape, it: Change) -> Values:
@@ -248,7 +259,7 @@ class Capture:
 
     def rename(self, before: Shape, shape: Shape) -> None:
         """Rows of this transaction have the names of now, where columns were renamed in it."""
-        names, changes = renamed(before, shape), Changes()
+        names, changes = renamed(before, shape), self.none()
         if not names:
             return
         for (number, key), row in self.changes.rows.ordered():
@@ -294,24 +305,27 @@ class Capture:
                 self.change(it)
         elif isinstance(it, Begin):
             # PostgreSQL sends again what wasn't confirmed before its connection broke
-            self.changes, self.xid, self.is_there = Changes(), it.xid, it.lsn < self.log.standing.lsn
+            self.changes, self.xid, self.is_there = self.none(), it.xid, it.lsn < self.log.standing.lsn
             self.lsn = it.lsn
         elif isinstance(it, Word):
             self.changes.count += (it.prefix, it.text) == (PREFIX, self.said.slot.encode())
         elif isinstance(it, Commit):
             if self.changes.count and not self.is_there:
                 self.commit(it)
-            self.changes = Changes()
+            self.changes = self.none()
             if self.waiting > MOST_WAITING:
                 self.settle()
 
     def commit(self, it: Commit) -> None:
-        """Writes a transaction, and before it what is remembered from it on of the tables: but where a part of it
-        stands, for that was written behind what is remembered already."""
-        if self.schemas.may_differ and not self.kept.is_cut:
+        """Writes a transaction, and before it what is remembered from it on of the tables, and once that this capture
+        writes: but where a part of it stands, for that was written behind what is remembered already."""
+        if (self.schemas.may_differ or self.owes_term) and not self.kept.is_cut:
             rows = self.schemas.rows(self.log.own)
+            if self.owes_term:
+                rows[TERM] = self.log.next_term()
             if rows:
                 self.log.note(rows)
+            self.owes_term = False
         self.log.commit(it.end, self.xid, it.clock, self.changes)
         self.kept.is_cut = False
 
@@ -401,5 +415,5 @@ class Capture:
                 if not is_passing(error):
                     raise
                 self.source.drop()
-                self.changes = Changes()
+                self.changes = self.none()
                 self.patience.wait(short(str(error)))

@@ -45,6 +45,9 @@ atttypid::bigint, atttypmod, a.xmin::text::bigint, attgenerated = '' and not exi
 from pg_class c join pg_attribute a on attrelid = c.oid
 where c.oid = %s and attnum > 0 and not attisdropped order by attnum"""
 
+_UNREAD = """select attname from pg_attribute where attrelid = %s and attname = any(%s::name[])
+and not has_column_privilege(attrelid, attnum, 'select') order by attnum"""
+
 _INDEXES = """select i.indisprimary, i.indisreplident, a.attname from pg_index i
 join pg_attribute a on a.attrelid = i.indrelid and a.attnum = i.indkey[0]
 where i.indrelid = %s and i.indisunique and i.indisvalid and i.indimmediate
@@ -187,6 +190,20 @@ class Catalog:
         )
         self.see_identity(table, identity, self.ask(_INDEXES, number), [it[0] for it in columns if it[3]])
         return shape
+
+    def see_rights(self, shape: Shape) -> None:
+        """This user may read all that a load reads of a table."""
+        table, (schema, _, _) = shape.table, shape.table.name.partition(".")
+        if not self.ask("select has_schema_privilege(%s, 'usage')", schema)[0][0]:
+            raise Broken(
+                BAD, f"{table.place}: this user may not use the schema {schema}: grant usage on schema {schema}"
+            )
+        for column in self.ask(_UNREAD, shape.number, shape.names):
+            raise Broken(
+                BAD,
+                f"{table.place}: this user may not read column {column[0]} of {table.name}: grant select on "
+                f"{table.name}",
+            )
 
     def look(self, shape: Shape, cursor: Any = None) -> Look:
         """A table as it is by now, or as the snapshot of a cursor has it."""

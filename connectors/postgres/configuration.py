@@ -10,7 +10,8 @@ from typing import Any, Dict, List, NamedTuple, NoReturn, Optional, Tuple
 sys.dont_write_bytecode = True
 sys.path.append(str(pathlib.Path(__file__).resolve().parent.parent / "common"))
 
-from blocks import Broken  # noqa: E402
+import feeding  # noqa: E402, F401, finds the package
+from vadungsil.errors import Broken  # noqa: E402
 
 __all__ = ["Broken", "Configuration", "Table", "read"]
 

@@ -41,13 +41,14 @@ RIGHTS = (
 
 
 class Origin:
-    """The replication origin of a capture. `place`: up to where it is by now; None: it isn't used."""
+    """The replication origin of a capture. `place`: up to where it is by now; None: it isn't used. `lacking`: of RIGHTS
+    those that this user hasn't."""
 
     def __init__(self, said: Configuration, catalog: Catalog) -> None:
         self.name, self.catalog = said.slot, catalog
-        self.is_allowed = all(
-            catalog.ask("select has_function_privilege(%s, 'execute')", f"pg_catalog.{it}")[0][0] for it in RIGHTS
-        )
+        may_call = "select has_function_privilege(%s, 'execute')"
+        self.lacking = [it for it in RIGHTS if not catalog.ask(may_call, f"pg_catalog.{it}")[0][0]]
+        self.is_allowed = not self.lacking
         self.place: Optional[int] = self.found() if self.is_allowed else None
 
     def found(self) -> Optional[int]:

@@ -8,12 +8,12 @@ import hashlib
 from typing import Any, Dict, Iterator, List, Optional, Tuple
 
 from configuration import Broken  # finds what is common
-from blocks import BLOCK_BYTES, Block, Framed, frames_of
 from engine_log import EngineLog, Reading
 from feeding import Feed, LinkBroken, Patience, Refused
 from log import lists_of, number_of, time_of
 from publishing import Publisher
 from vadungsil import Entry, encode
+from vadungsil.blocks import BLOCK_BYTES, Block, Framed, frames_of
 from vadungsil.node import Node
 from vadungsil.postgres import COMMIT, OWN, TIMES
 from vadungsil.values import Fact

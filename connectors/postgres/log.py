@@ -3,6 +3,7 @@ Needs the package `vadungsil`."""
 from __future__ import annotations
 
 import json
+import os
 import struct
 from typing import Any, Callable, Dict, Iterable, Iterator, NamedTuple, Optional, Set, Tuple
 
@@ -13,6 +14,7 @@ from keys import Births, Place
 from shapes import Written
 from spilling import Spilling
 from vadungsil import LogWriter, encode
+from vadungsil.identity import TERM, Term, term_of
 from vadungsil.postgres import COMMIT, OWN, TIMES, Long, key_and_check, last_time, long_of
 from vadungsil.values import MOST_BODY, MOST_WRITES
 
@@ -53,10 +55,10 @@ def lists_of(frame: bytes) -> Iterator[Tuple[int, int, Optional[memoryview]]]:
 
 
 class Changes:
-    """What one transaction does, folded: of each key the last."""
+    """What one transaction does, folded: of each key the last. `alive` is called where that takes long."""
 
-    def __init__(self) -> None:
-        self.rows = Spilling(Written)
+    def __init__(self, alive: Callable[[], None] = lambda: None) -> None:
+        self.rows = Spilling(Written, alive=alive)
         self.has_long = False
         self.count = 0  # changes that came
         self.tables: Set[int] = set()  # the tables that have some
@@ -165,6 +167,12 @@ class Log:
             )
         self.standing = Standing(said["transaction"], said["lsn"], said["latest"])
 
+    def next_term(self) -> bytes:
+        """The row that says who writes from here on."""
+        before = self.own.get(TERM)
+        number = term_of(before).number + 1 if before is not None else 1
+        return Term(number, int.from_bytes(os.urandom(8), "big"), (self.number,)).body()
+
     def begin(self, number: int, time: int) -> None:
         """Goes on behind what was taken: so many entries, up to this time."""
         self.number = number
@@ -209,11 +217,9 @@ class Log:
         """All that is written for rows, with their parts, in order of table and key; and which rows have parts."""
         if not self.longs and not changes.has_long:
             return self.short_writes(changes), {}
-        writes = Spilling(most=changes.rows.most)
+        writes = Spilling(most=changes.rows.most, alive=self.alive)
         longs: Dict[Place, Long] = {}
-        for at, (place, row) in enumerate(changes.rows.ordered()):
-            if at % MOST_WRITES == 0:
-                self.alive()
+        for place, row in changes.rows.ordered():
             before = self.longs.get(place)
             for part in range(before.pieces if before is not None else 0):
                 writes.put((self.parts, before.first + part), None)  # type: ignore[union-attr]

@@ -1,6 +1,7 @@
 """The database of a capture: its rows at the start, and the transactions since. Needs python3-psycopg2."""
 from __future__ import annotations
 
+import contextlib
 import functools
 import time
 from typing import Any, Callable, Dict, Iterator, List, Optional, Tuple
@@ -16,8 +17,9 @@ from shapes import Shape
 from vadungsil.postgres import lsn_of
 from waiting import Waiting
 
-# how long a silent link may be, in seconds, before the server is told that we live; it gives up after 60
+# how long a silent link may be, in seconds, before the server is told that we live
 ALIVE = 10.0
+_GIVES_UP = "select setting::float / 1000 from pg_settings where name = 'wal_sender_timeout'"
 PREFIX = "vadungsil"
 _ESCAPES = {"b": "\b", "f": "\f", "n": "\n", "r": "\r", "t": "\t", "v": "\v"}
 
@@ -37,7 +39,7 @@ class Source:
         self.link: Any = None
         self.cursor: Any = None
         self.decoder = Decoder()
-        self.confirmed, self.told = 0, 0.0
+        self.confirmed, self.told, self.every = 0, 0.0, ALIVE
         self.last, self.heard = 0, 0.0  # the place of the last message, and when it came
 
     def drop(self) -> None:
@@ -96,6 +98,7 @@ class Source:
     def start(self) -> None:
         """Begins to read behind what was confirmed to PostgreSQL."""
         self.decoder, self.last = Decoder(), 0
+        self.every = silence(self.catalog.ask(_GIVES_UP)[0][0])
         self.beat()
         quoted = self.said.publication.replace('"', '""')
         options = {"proto_version": "1", "messages": "true", "publication_names": f'"{quoted}"'}
@@ -124,9 +127,11 @@ class Source:
             self.tell()
 
     def live(self) -> None:
-        """Reports that we are there, where that is due."""
-        if self.cursor is not None and self.confirmed and time.monotonic() - self.told > ALIVE:
-            self.tell()
+        """Reports that we are there, where that is due; also in what takes long between two reads. A connection that
+        has ended shows at the next read, and not in the midst of what is written."""
+        if self.cursor is not None and self.confirmed and time.monotonic() - self.told > self.every:
+            with contextlib.suppress(psycopg2.Error):
+                self.tell()
 
     def tell(self) -> None:
         self.told = time.monotonic()
@@ -135,6 +140,11 @@ class Source:
     def seen(self) -> int:
         """Up to where all that PostgreSQL logged has been sent, where nothing waits to be read."""
         return int(self.cursor.wal_end)
+
+
+def silence(timeout: float) -> float:
+    """How long a connection may be silent where the server gives up after so many seconds, or never (0)."""
+    return min(ALIVE, timeout / 4) if timeout else ALIVE
 
 
 class Lines:

@@ -1,5 +1,5 @@
 """A log in Redis: stream S of log L is the Redis stream `hekaton:L:S`, one message a block
-(connectors/common/blocks.py), in the field `b`, and its SHA-256 in the field `s`. A message of before blocks were, with
+(vadungsil/blocks.py), in the field `b`, and its SHA-256 in the field `s`. A message of before blocks were, with
 one item frame in the field `f`, is a block too, and has the id that a block would have.
 
 The id of a message says how far it goes: n is the last entry in it, k counts the messages with marks alone behind it,
@@ -20,9 +20,10 @@ sys.path.append(str(pathlib.Path(__file__).resolve().parent.parent / "common"))
 
 import redis  # noqa: E402
 
-from blocks import Block, Broken, no_block, see_sum, sum_of, walked  # noqa: E402
 from engine_log import EngineLog, Moved, Reading, add_log_words, see_log  # noqa: E402
 from finding import OwnersConnection, through_cluster, through_sentinels  # noqa: E402
+from vadungsil.blocks import Block, no_block, see_sum, sum_of, walked  # noqa: E402
+from vadungsil.errors import Broken  # noqa: E402
 
 APPEND = (pathlib.Path(__file__).resolve().parent / "append.lua").read_text()
 

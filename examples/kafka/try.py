@@ -16,11 +16,11 @@ ROOT = pathlib.Path(__file__).resolve().parent.parent.parent
 sys.path[:0] = [str(ROOT / "connectors" / "common")]
 from confluent_kafka import Consumer, KafkaException, Producer, TopicPartition
 
-from blocks import Cutter, walked
 from engine_log import EngineLog, Moved, Reading
 from following import Follower
 from publishing import Publisher
 from vadungsil import LogWriter, encode
+from vadungsil.blocks import Cutter, walked
 
 TOPIC, STREAMS, LIMIT = "hekaton.7", 2, 30
 

@@ -65,9 +65,7 @@ class Programs:
         return (self.folder / "said").read_text(errors="replace")[-2000:]
 
     def node(self, port: int, log: int) -> "subprocess.Popen[bytes]":
-        child = self.start(HKREP, "serve", "--stay", "--log", log, "--streams", 1, "--port", port, "--links", 64,
-                           "--messages", 2, "--guard", "-q",
-                           stdout=subprocess.PIPE)
+        child = self.start(HKREP, "node", "--log", log, "--streams", 1, "--port", port, "-q", stdout=subprocess.PIPE)
         assert child.stdout is not None
         child.stdout.readline()
         return child

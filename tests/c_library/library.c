@@ -203,7 +203,7 @@ static void words(void) {
 
 static void version(void) {
     char out[32], small[32]; size_t n = hk_version((uint8_t *)out, sizeof out);
-    want("version", n == sizeof HEKATON_VERSION && !strcmp(out, HEKATON_VERSION));
+    want("version", n == sizeof WANTED_VERSION && !strcmp(out, WANTED_VERSION));
     memset(small, 7, sizeof small);
     want("version: too small by one", hk_version((uint8_t *)small, n - 1) == n && !memcmp(small, out, n - 1) && small[n - 1] == 7);
     want("version: no room", hk_version((uint8_t *)small, 0) == n && small[n - 1] == 7);

@@ -146,7 +146,7 @@ CASES = (
     Case("VadungsilManyErrors", 12, (of(ERRORS, "0+16x60", number="90"), of(ERRORS, "0+0x60", number="26")), "NODE returns more than one error a second, other than 25 and 26", ("node",)),
     Case("VadungsilManyErrors", 12, (of(ERRORS, "0+16x60", number="90"),), "NODE returns more than one error a second, other than 25 and 26", ("node",)),
     Case("VadungsilManyErrors", 12, (of(ERRORS, "0+15x60", number="90"), of(ERRORS, "0+800x60", number="26"))),
-    Case("VadungsilLinksUsedUp", 60, (of(OPENED, "1+0x200 2+1x19 21+0x60"),), "20 connections to NODE were opened within an hour; without --stay it serves 64 at most in its life"),
+    Case("VadungsilLinksUsedUp", 60, (of(OPENED, "1+0x200 2+1x19 21+0x60"),), "20 connections to NODE were opened within an hour; a node of serve has 64 in its life"),
     Case("VadungsilLinksUsedUp", 60, (of(OPENED, "1+0x200 2+1x14 16+0x60"),)),
     Case("VadungsilSlowAnswers", 12, answers(98, 100), "range of NODE takes more than a second (p99)", ("node", "kind")),
     Case("VadungsilSlowAnswers", 12, answers(99, 100)),

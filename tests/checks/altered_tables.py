@@ -34,8 +34,10 @@ GONE, KEY, NOT = "did not change and isn't sent, and since the row was written t
 
 class Story(NamedTuple):
     """`said`: what a capture says that ends with 4, "" where it goes on; `behind`: the same where all is done before it comes, None for the same.
-    `adopts`: what is done first where the log is one of before, which remembers nothing."""
-    name: str
+    `adopts`: what is done first where the log is one of before, which remembers nothing. `of` and `told`: what is altered, a row of the page, and how; several
+    may be told by the same words there, and differ by `how`. Where nothing is altered `of` is ""."""
+    of: str
+    told: str
     made: str
     steps: Tuple[str, ...]
     said: str = ""
@@ -44,126 +46,145 @@ class Story(NamedTuple):
     more: str = ""
     behind: object = None
     adopts: str = ""
+    how: str = ""
 
-    def row(self):
-        """The row of the page, of a story that stops a capture."""
-        at_once = "stops" if self.said else "goes on"
-        away = at_once if self.behind is None else "stops"
-        return f"| {self.name} | {at_once} | {away} |"
+    @property
+    def name(self):
+        return ": ".join(it for it in (self.of, self.told, self.how) if it)
+
+    def outcome(self):
+        """The column of the page."""
+        if self.said:
+            return "Stops"
+        return "Goes on" if self.behind is None else "Stops if away"
 
     def ways(self):
         return ["beside", "behind", *(["adopted"] if self.adopts else [])]
 
 
+def rows():
+    """The rows of the page: what is altered, and the stories of each outcome, each told once."""
+    told = {}
+    for it in STORIES:
+        if it.of:
+            cell = told.setdefault(it.of, {"Goes on": [], "Stops if away": [], "Stops": []})[it.outcome()]
+            cell += [it.told] if it.told not in cell else []
+    return [("| " + " | ".join([of, *("; ".join(cell) for cell in cells.values())]) + " |").replace("  ", " ") for of, cells in told.items()]
+
+
 STORIES = (
     # long values, which PostgreSQL doesn't send where they did not change
-    Story("long values that did not change", ROWS, (TOUCH, "update t set id = id + 100 where id <= 2", "update t set n = 0, big = 'x' where id = 3", TOUCH)),
-    Story("a long column renamed", ROWS, ("alter table t rename big to grown", TOUCH), adopts=TOUCH),
-    Story("a long column renamed twice, rows in between", ROWS,
-          ("alter table t rename big to grown", TOUCH + " where id < 3", "alter table t rename grown to large", TOUCH)),
-    Story("long columns swapped", ROWS,
+    Story("", "long values that did not change", ROWS, (TOUCH, "update t set id = id + 100 where id <= 2", "update t set n = 0, big = 'x' where id = 3", TOUCH)),
+    Story("a long column", "renamed", ROWS, ("alter table t rename big to grown", TOUCH), adopts=TOUCH),
+    Story("a long column", "renamed", ROWS,
+          ("alter table t rename big to grown", TOUCH + " where id < 3", "alter table t rename grown to large", TOUCH), how="twice, rows in between"),
+    Story("a long column", "swapped with another", ROWS,
           ("alter table t rename big to tmp", "alter table t rename big2 to big", "alter table t rename tmp to big2", TOUCH), adopts=TOUCH),
-    Story("long columns swapped, and back", ROWS,
+    Story("a long column", "swapped with another", ROWS,
           ("begin; alter table t rename big to tmp; alter table t rename big2 to big; alter table t rename tmp to big2; commit", TOUCH + " where id < 3",
-           "begin; alter table t rename big to tmp; alter table t rename big2 to big; alter table t rename tmp to big2; commit", TOUCH)),
-    Story("long columns swapped in the transaction of the rows", ROWS,
+           "begin; alter table t rename big to tmp; alter table t rename big2 to big; alter table t rename tmp to big2; commit", TOUCH), how="and back"),
+    Story("a long column", "swapped with another", ROWS,
           ("begin; update t set n = 7, big = big || 'x' where id < 3; alter table t rename big to tmp; alter table t rename big2 to big; "
-           "alter table t rename tmp to big2; update t set n = n + 1; commit", TOUCH)),
-    Story("a long column altered by `using`, then a row that doesn't set it", ROWS, ("alter table t alter big type text using upper(big)", TOUCH), GONE,
+           "alter table t rename tmp to big2; update t set n = n + 1; commit", TOUCH), how="in the transaction of the rows"),
+    Story("a long column", "`using`, then a row that doesn't set it", ROWS, ("alter table t alter big type text using upper(big)", TOUCH), GONE,
           adopts=TOUCH),
-    Story("the same, and rows before it", ROWS, (TOUCH, "alter table t alter big type text using upper(big)", TOUCH), GONE),
-    Story("a long column altered by `using`, then set in each row", ROWS,
+    Story("a long column", "`using`, then a row that doesn't set it", ROWS, (TOUCH, "alter table t alter big type text using upper(big)", TOUCH), GONE, how="rows before it"),
+    Story("a long column", "`using`, then set in each row", ROWS,
           ("alter table t alter big type text using upper(big)", "update t set big = big || 'x'")),
-    Story("a long column altered by `using`, with replica identity full", ROWS,
+    Story("a long column", "`using` with replica identity full", ROWS,
           ("alter table t replica identity full", TOUCH, "alter table t alter big type text using upper(big)", TOUCH)),
-    Story("a long column from text to varchar", ROWS, ("alter table t alter big type varchar using big::varchar", TOUCH)),
-    Story("a long column dropped and added", ROWS, ("alter table t drop big, add big text", TOUCH)),
-    Story("a long column dropped, another renamed to its name, one added, and no row in between", ROWS,
+    Story("a long column", "from text to varchar", ROWS, ("alter table t alter big type varchar using big::varchar", TOUCH)),
+    Story("a long column", "dropped and added", ROWS, ("alter table t drop big, add big text", TOUCH)),
+    Story("a long column", "dropped, another renamed to its name, one added, no row in between", ROWS,
           ("alter table t drop big", "alter table t rename big2 to big", "alter table t add big2 text", TOUCH), GONE),
-    Story("a long column dropped", ROWS, (TOUCH + " where id < 3", "alter table t drop big", TOUCH)),
-    Story("a column added, filled, another added", ROWS,
-          ("alter table t add doc text", f"update t set doc = {LONG % 'id'}", "alter table t add other int", TOUCH)),
-    Story("a column added and filled in one transaction", ROWS, (f"begin; alter table t add doc text; update t set doc = {LONG % 'id'}; {TOUCH}; commit", TOUCH)),
-    Story("a default and not null of a long column", ROWS, ("alter table t alter big set default 'x', alter big set not null", TOUCH)),
-    Story("VACUUM FULL", ROWS, (TOUCH, "vacuum full t", TOUCH)),
-    Story("VACUUM FULL and a long column renamed, rows in between", ROWS, ("vacuum full t", TOUCH, "alter table t rename big to grown", TOUCH), "", behind=GONE),
-    Story("another column altered by `using`", ROWS, ("alter table t alter n type bigint using n * 2", TOUCH)),
-    Story("TRUNCATE, a default, new rows", ROWS,
+    Story("a long column", "dropped", ROWS, (TOUCH + " where id < 3", "alter table t drop big", TOUCH)),
+    Story("a long column", "added and filled", ROWS,
+          ("alter table t add doc text", f"update t set doc = {LONG % 'id'}", "alter table t add other int", TOUCH), how="then another added"),
+    Story("a long column", "added and filled", ROWS, (f"begin; alter table t add doc text; update t set doc = {LONG % 'id'}; {TOUCH}; commit", TOUCH), how="in one transaction"),
+    Story("a long column", "default and not null", ROWS, ("alter table t alter big set default 'x', alter big set not null", TOUCH)),
+    Story("the table", "VACUUM FULL", ROWS, (TOUCH, "vacuum full t", TOUCH)),
+    Story("a long column", "renamed behind VACUUM FULL and rows", ROWS, ("vacuum full t", TOUCH, "alter table t rename big to grown", TOUCH), "", behind=GONE),
+    Story("another column", "`using`", ROWS, ("alter table t alter n type bigint using n * 2", TOUCH)),
+    Story("the table", "TRUNCATE, a default, new rows", ROWS,
           ("truncate t", "alter table t alter n set default 5", f"insert into t values (1, 1, {LONG % '1'}, null)", TOUCH)),
     # short values come with each row
-    Story("short columns renamed", SHORT, ("alter table t rename a to c", "update t set b = 7", "alter table t rename b to a", "update t set c = 'y'")),
-    Story("a short column dropped and added", SHORT, ("alter table t drop a, add a int default 7", "update t set b = b + 1")),
-    Story("a short column altered by `using`, then each row", SHORT, ("alter table t alter b type text using 'v' || b", "update t set a = 'x'")),
-    Story("a column added with a default that is drawn", SHORT, ("alter table t add r float8 default random()", "update t set a = 'b'")),
-    Story("a generated column added to a table without `columns`", SHORT, ("alter table t add g int generated always as (b * 2) stored", "update t set b = b + 1"),
+    Story("another column", "renamed", SHORT, ("alter table t rename a to c", "update t set b = 7", "alter table t rename b to a", "update t set c = 'y'")),
+    Story("another column", "dropped and added", SHORT, ("alter table t drop a, add a int default 7", "update t set b = b + 1")),
+    Story("another column", "`using`", SHORT, ("alter table t alter b type text using 'v' || b", "update t set a = 'x'"), how="short, then each row"),
+    Story("another column", "added with a drawn default", SHORT, ("alter table t add r float8 default random()", "update t set a = 'b'")),
+    Story("another column", "a generated one added, without `columns`", SHORT, ("alter table t add g int generated always as (b * 2) stored", "update t set b = b + 1"),
           behind="column g of {s}.t is generated"),
     # keys
-    Story("the key from integer to bigint by `using id + 100`", "create table t(id int primary key, n int); insert into t values (1, 1), (2, 2)",
-          ("alter table t alter id type bigint using id + 100", TOUCH), KEY),
-    Story("the key altered by `using id + 100`", "create table t(id bigint primary key, n int); insert into t values (1, 1), (2, 2)",
-          ("alter table t alter id type bigint using id + 100", TOUCH), KEY),
-    Story("the key from integer to bigint", "create table t(id int primary key, n int); insert into t values (1, 1), (2, 2)",
+    Story("the key", "`using`", "create table t(id int primary key, n int); insert into t values (1, 1), (2, 2)",
+          ("alter table t alter id type bigint using id + 100", TOUCH), KEY, how="from integer to bigint, id + 100"),
+    Story("the key", "`using`", "create table t(id bigint primary key, n int); insert into t values (1, 1), (2, 2)",
+          ("alter table t alter id type bigint using id + 100", TOUCH), KEY, how="id + 100"),
+    Story("the key", "from integer to bigint", "create table t(id int primary key, n int); insert into t values (1, 1), (2, 2)",
           ("alter table t alter id type bigint", TOUCH), KEY),
-    Story("the key from text to uuid", "create table t(k text primary key, v int); insert into t values ('AAAAAAAA-0000-0000-0000-000000000001', 1)",
+    Story("the key", "from text to uuid", "create table t(k text primary key, v int); insert into t values ('AAAAAAAA-0000-0000-0000-000000000001', 1)",
           ("alter table t alter k type uuid using k::uuid", "update t set v = 2"), "the key k of", "k"),
-    Story("the key from char(5) to text", "create table t(k char(5) primary key, v int); insert into t values ('ab', 1), ('cd', 2)",
+    Story("the key", "from char to text", "create table t(k char(5) primary key, v int); insert into t values ('ab', 1), ('cd', 2)",
           ("alter table t alter k type text", "update t set v = v + 1"), "the key k of", "k"),
-    Story("the key altered by `using lower(k)`", TEXTS, ("alter table t alter k type text using lower(k)", "update t set v = 2"), "the key k of", "k"),
-    Story("the key from text to varchar", TEXTS, ("alter table t alter k type varchar", "update t set v = 2"), "", "k"),
-    Story("the key renamed", SHORT, ("alter table t rename id to number", "update t set b = 7"), "table {s}.t has no column id"),
-    Story("the key renamed, and back", SHORT, ("alter table t rename id to number", "alter table t rename number to id", "update t set b = 7")),
-    Story("the key and another column swapped", "create table t(id int primary key, n int unique not null); insert into t values (1, 7), (2, 8)",
+    Story("the key", "`using`", TEXTS, ("alter table t alter k type text using lower(k)", "update t set v = 2"), "the key k of", "k", how="lower(k)"),
+    Story("the key", "from text to varchar", TEXTS, ("alter table t alter k type varchar", "update t set v = 2"), "", "k"),
+    Story("the key", "varchar made longer", "create table t(k varchar(5) primary key, v int); insert into t values ('ab', 1), ('cd', 2)",
+          ("alter table t alter k type varchar(9)", "update t set v = v + 1"), "", "k"),
+    Story("the key", "char made longer", "create table t(k char(5) primary key, v int); insert into t values ('ab', 1), ('cd', 2)",
+          ("alter table t alter k type char(9)", "update t set v = v + 1"), "the key k of", "k"),
+    Story("the key", "renamed", SHORT, ("alter table t rename id to number", "update t set b = 7"), "table {s}.t has no column id"),
+    Story("the key", "renamed and back", SHORT, ("alter table t rename id to number", "alter table t rename number to id", "update t set b = 7")),
+    Story("the key", "swapped with another", "create table t(id int primary key, n int unique not null); insert into t values (1, 7), (2, 8)",
           ("alter table t replica identity full; alter table t rename id to x; alter table t rename n to id; alter table t rename x to n", "update t set n = n + 10"),
           "the key id of {s}.t may be another column than it was"),
-    Story("the key dropped and added", "create table t(id int primary key, n int); insert into t values (1, 1)",
+    Story("the key", "dropped and added", "create table t(id int primary key, n int); insert into t values (1, 1)",
           ("alter table t drop id, add id serial primary key", TOUCH), KEY),
-    Story("a default of the key and VACUUM FULL, rows in between", SHORT,
+    Story("the key", "default, rows, VACUUM FULL", SHORT,
           ("alter table t alter id set default 5", "update t set b = 7", "vacuum full t", "update t set b = 8"), "", behind=KEY),
-    Story("the key from a whole number to a text", SHORT, ("alter table t alter id type text", "update t set b = 7"), "the key id of {s}.t has the type text",
+    Story("the key", "from a number to text", SHORT, ("alter table t alter id type text", "update t set b = 7"), "the key id of {s}.t has the type text",
           behind="the log was begun with"),
-    Story("keys swapped", SHORT, ("begin; update t set id = -1 where id = 1; update t set id = 1 where id = 2; update t set id = 2 where id = -1; commit",
+    Story("", "keys swapped", SHORT, ("begin; update t set id = -1 where id = 1; update t set id = 1 where id = 2; update t set id = 2 where id = -1; commit",
                                   "update t set id = 9223372036854775807 where id = 1", "update t set id = -9223372036854775808 where id = 2")),
-    Story("keys that are texts", TEXTS, ("update t set k = k || 'x'", "delete from t", "insert into t values ('', 1), (E'\\n\\t\\\\', 2), ('ünï ☃ 𝄞', 3)"),
+    Story("", "keys that are texts", TEXTS, ("update t set k = k || 'x'", "delete from t", "insert into t values ('', 1), (E'\\n\\t\\\\', 2), ('ünï ☃ 𝄞', 3)"),
           key="k"),
-    Story("the index of the key dropped", "create table t(id int not null, a text); create unique index ti on t(id); alter table t replica identity using index ti",
+    Story("the key", "its index dropped", "create table t(id int not null, a text); create unique index ti on t(id); alter table t replica identity using index ti",
           ("insert into t values (1, null)", "update t set id = 2", "drop index ti", "insert into t values (2, 'dup')"), "PostgreSQL doesn't send id alone any more",
           behind="the key id of {s}.t needs to be not null and unique by itself"),
-    Story("replica identity full, and back", SHORT, ("alter table t replica identity full", "update t set id = 5 where id = 1",
+    Story("the key", "replica identity full and back", SHORT, ("alter table t replica identity full", "update t set id = 5 where id = 1",
                                                      "alter table t replica identity default", "update t set id = 6 where id = 5")),
     # tables
-    Story("the table renamed", SHORT, ("alter table t rename to u", "update u set b = 7", "alter table u rename to t"),
+    Story("the table", "renamed", SHORT, ("alter table t rename to u", "update u set b = 7", "alter table u rename to t"),
           "{s}.t is another table from here on, or has another name"),
-    Story("another table under its name", SHORT,
+    Story("the table", "another under its name", SHORT,
           ("drop table t; create table t(id bigint primary key, a text, b int); alter publication {p} add table t; insert into t values (2, 'x', 2)",), "is another table from here on|is gone",
           behind="the log was begun with"),
-    Story("a partition detached, and emptied by TRUNCATE", LEAF, ("update pt set id = 160 where id = 1", "update pt set id = 2 where id = 150", "alter table pt detach partition t",
+    Story("the table", "a partition detached, then TRUNCATE", LEAF, ("update pt set id = 160 where id = 1", "update pt set id = 2 where id = 150", "alter table pt detach partition t",
                                          "update t set a = 9", "truncate t"), behind=KEY),
-    Story("a table that inherits", "create table t(id int primary key, a int); create table ch() inherits (t); alter table ch replica identity full; insert into t values (1, 1); "
+    Story("", "a table that inherits", "create table t(id int primary key, a int); create table ch() inherits (t); alter table ch replica identity full; insert into t values (1, 1); "
                                    "insert into ch values (2, 2)", ("update t set a = a + 1", "truncate only t"), publication="for table only t"),
-    Story("TRUNCATE, rolled back and not", SHORT,
+    Story("", "TRUNCATE, rolled back and not", SHORT,
           ("begin; insert into t values (50, 'q', 1); truncate t; insert into t values (1, 'b', 2); commit",
            "begin; insert into t select i, 'n', 1 from generate_series(100, 900) i; savepoint a; truncate t; rollback to a; commit")),
-    Story("a transaction in two phases", SHORT,
+    Story("", "a transaction in two phases", SHORT,
           ("begin; insert into t values (10, 'p', 1); savepoint s; insert into t values (11, 'r', 1); rollback to s; prepare transaction '{s}'",
            "insert into t values (20, 'z', 2)", "commit prepared '{s}'")),
     # what isn't published
-    Story("unlogged, and logged again", SHORT, ("alter table t set unlogged", "insert into t values (9, 'lost', 1)"), "{s}.t is unlogged",
+    Story("the table", "unlogged and logged again", SHORT, ("alter table t set unlogged", "insert into t values (9, 'lost', 1)"), "{s}.t is unlogged",
           publication="for all tables", behind="publication {p} has no {s}.t"),
-    Story("taken out of the publication, and put back", SHORT,
+    Story("the publication", "the table taken out and put back", SHORT,
           ("alter publication {p} drop table t", "insert into t values (9, 'lost', 1)", "alter publication {p} add table t"), "publication {p} has {s}.t otherwise"),
-    Story("a row filter", SHORT, ("alter publication {p} set table t where (id > 5)", "insert into t values (2000, 'seen', 1)"), "publication {p} has {s}.t otherwise",
+    Story("the publication", "a row filter", SHORT, ("alter publication {p} set table t where (id > 5)", "insert into t values (2000, 'seen', 1)"), "publication {p} has {s}.t otherwise",
           behind="publication {p} leaves out rows of {s}.t"),
-    Story("a column list", SHORT, ("alter publication {p} set table t (id, a)", "update t set a = 'x'"), "publication {p} has {s}.t otherwise",
+    Story("the publication", "a column list", SHORT, ("alter publication {p} set table t (id, a)", "update t set a = 'x'"), "publication {p} has {s}.t otherwise",
           behind="publication {p} leaves out column b of {s}.t"),
-    Story("updates left out", SHORT, ("alter publication {p} set (publish = 'insert')", "update t set a = 'lost'"), "publication {p} has updates = false",
+    Story("the publication", "updates left out", SHORT, ("alter publication {p} set (publish = 'insert')", "update t set a = 'lost'"), "publication {p} has updates = false",
           behind="publication {p} leaves out inserts, updates"),
-    Story("updates left out, and set back", SHORT, ("alter publication {p} set (publish = 'insert'); update t set a = 'lost'; "
-                                                    "alter publication {p} set (publish = 'insert, update, delete, truncate')",),
+    Story("the publication", "updates left out and set back", SHORT, ("begin; alter publication {p} set (publish = 'insert'); update t set a = 'lost'; "
+                                                    "alter publication {p} set (publish = 'insert, update, delete, truncate'); commit",),
           "publication {p} was altered, and perhaps set back"),
-    Story("a partition published as its root", LEAF, ("alter publication {p} set (publish_via_partition_root = true)", "insert into pt values (2, 2)"),
+    Story("the publication", "a partition published as its root", LEAF, ("alter publication {p} set (publish_via_partition_root = true)", "insert into pt values (2, 2)"),
           "publication {p} has publish_via_partition_root = true", publication="for table pt", behind="publication {p} has no {s}.t"),
-    Story("the publication dropped", SHORT, ("drop publication {p}",), "publication {p} is gone", behind="there is no publication {p}"),
-    Story("another owner, and another table published", SHORT,
+    Story("the publication", "dropped", SHORT, ("drop publication {p}",), "publication {p} is gone", behind="there is no publication {p}"),
+    Story("the publication", "another owner, another table added", SHORT,
           ("create table other(i int primary key); alter publication {p} add table other", "alter publication {p} owner to other_owner", "update t set b = 7")),
 )
 

@@ -570,7 +570,7 @@ def how_many_were_new():
 
 def waited_fronts():
     """`front --wait` prints the front once its time can be read, by several requests where that is late; a node that reads version 1 alone is told as one."""
-    with Staying(4, "--messages", "2") as node, Node(1) as plain:
+    with Staying(4) as node, Node(1) as plain:
         waiting = [begun("front", "--port", node.port, "--wait", 5, *more) for more in ([], ["--json"], ["--reply-seconds", 1])]
         time.sleep(1.2)
         pairs = [("they wait", [it.poll() for it in waiting], [None] * 3)]
@@ -589,7 +589,7 @@ def waited_fronts():
 
 def told_numbers():
     """`status --stats` and `--tables` print a node's numbers and tables behind what `status` prints, in lines and in JSON; a node that tells none is told of."""
-    with Staying(5, "--messages", "2") as node, Node(4) as plain, Telling(node.port) as telling, Telling(node.port, None) as old, Telling(node.port, (), ()) as empty:
+    with Staying(5) as node, Node(4) as plain, Telling(node.port) as telling, Telling(node.port, None) as old, Telling(node.port, (), ()) as empty:
         with node.link() as link:
             link.ask(say.items(say.E1))
         status, in_json = (run("status", "--port", node.port, *words)[0] for words in ((), ("--json",)))
@@ -622,7 +622,7 @@ def told_numbers():
 def waited_answers():
     """`ask --at TIME --wait` answers once its time can be read, whichever of them stands before the query, by several requests where that is late; who can't wait is told why."""
     query = ["get", 1, 5]
-    with Staying(5, "--messages", "2") as node, Node(1) as plain:
+    with Staying(5) as node, Node(1) as plain:
         asked = (["--at", 5, "--wait", *query], [*query, "--at", 5, "--wait"], ["--wait", 5, *query], ["--json", "--at", 5, *query, "--wait"])
         with node.link() as link:
             waiting = [begun("ask", "--port", node.port, *words) for words in asked]

@@ -357,6 +357,15 @@ def deltas():
     compare("deltas with nothing in them", serve_seconds, lambda count: rows_and_mark(count) + say.delta(count) * count, fronts, 1_000)
 
 
+def deltas_of_a_chain():
+    """A key that each entry writes again, as a heartbeat does, and a delta of the last of them."""
+    def dear(count):
+        born = (say.entry(n, n, [(1, 5, 9, b"")], [(1, 5, n - 1)] if n > 1 else []) for n in range(1, count + 1))
+        return say.items(*born, say.mark(1, count, count)) + say.delta(count - 1) * count
+
+    compare("deltas of the last of a key's versions", serve_seconds, dear, lambda count: rows_and_mark(count) + say.delta(count - 1) * count, 1_000)
+
+
 def rising_joins():
     def dear(count):
         sent = (say.join_this(base=count, horizon=n, streams=[(count, count, [], [])]) for n in range(1, count))
@@ -405,8 +414,8 @@ def open_counts():
 
 
 GATE = (tags, keys, one_tag, orders_of_keys, orders_of_times, orders_of_ends, orders_of_births, marks, covered_marks, numbers_, numbers_with_gaps,
-        streams, chains, contradictions, all_contradict, endless_line, empty_lines, endless_frame, prunes, changing_tags, deltas, rising_joins, refused_joins,
-        lone_ends, small_joins)
+        streams, chains, contradictions, all_contradict, endless_line, empty_lines, endless_frame, prunes, changing_tags, deltas, deltas_of_a_chain,
+        rising_joins, refused_joins, lone_ends, small_joins)
 OPEN = (open_counts,)
 
 

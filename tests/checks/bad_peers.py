@@ -30,7 +30,6 @@ from messages import E1, E2, E3
 from staying import LIMIT, PROGRAM, OwnNode, Staying, most_memory
 
 MEGABYTE = 1 << 20
-LATER = ("--messages", "2")
 PUSHED = say.items(E1, say.mark(1, 1, 1))
 GET = say.ask(1, say.get(1, 5))
 ROW = ("row", (9, b"\x41"))
@@ -39,7 +38,7 @@ SNAPSHOT, LACKS_ROOM = b"\1\x22", ("refused", 90, 0, 0)
 MOST_MEMORY = 2_048 * MEGABYTE
 # What all connections may make it keep, half of it those that only read, and how many threads give long answers.
 LINK_BYTES, WORKERS = 200_000_000, 4
-BOUNDED = (*LATER, "--workers", str(WORKERS))
+BOUNDED = ("--workers", str(WORKERS))
 # How much memory may be taken beside what is counted: buffers of threads, and what the allocator keeps.
 MARGIN = 32 * MEGABYTE
 # How many bytes of a reply the system may hold on its way to a peer that doesn't read.
@@ -285,7 +284,7 @@ def seconds_of_changes(link, number, others):
 def changes_beside_snapshots(count):
     """A change is shown once nobody reads the older copy any more, so it may wait for the snapshots that are being made as it comes."""
     entries, each = 60, 96 // count + 1
-    with Staying(1, *LATER, "--link-bytes", "1000000000", reading=count + 1, feeding=1) as node:
+    with Staying(1, "--link-bytes", "1000000000", reading=count + 1, feeding=1) as node:
         filled(node, entries, 100)
         with node.link(node.read_port) as reader:
             alone, size = seconds_alone(reader, 5)
@@ -317,7 +316,7 @@ def break_off(links):
 
 def ends_with_pins():
     """64 connections with 1,024 pins each break off at once: so long a change and a question wait that come right behind."""
-    with Staying(65, *LATER, reading=1, feeding=1) as node, contextlib.ExitStack() as stack:
+    with Staying(65, reading=1, feeding=1) as node, contextlib.ExitStack() as stack:
         link, reader, feeder = (stack.enter_context(node.link(port)) for port in (node.port, node.read_port, node.feed_port))
         pairs, holders = [("a push", link.ask(PUSHED), ("done", 2))], [node.link() for _ in range(64)]
         send_each((holder, say.hold(1) * 1_024) for holder in holders)
@@ -350,7 +349,7 @@ def asked_beside(links, seconds):
 def flooded_without_files():
     """Where a node can open no further file and a hundred come at its three ports, old connections are answered, and few lines are printed; once they have gone
     the next ones are served. A port that waits for a connection has a file for that already, so each is left two: for its next one, and to wait."""
-    with Staying(50, *LATER, "-q", reading=50, feeding=50) as node, contextlib.ExitStack() as stack:
+    with Staying(50, "-q", reading=50, feeding=50) as node, contextlib.ExitStack() as stack:
         ports = (node.port, node.read_port, node.feed_port)
         old = [stack.enter_context(node.link(port)) for port in ports]
         pairs = [("a push", old[0].ask(PUSHED), ("done", 2)), ("old links", asked_beside(old[1:], 1), {ROW})]
@@ -404,13 +403,23 @@ def asked_of_full(node, request):
 
 def a_full_node():
     """A node whose memory has a limit refuses what would grow beyond it (90), or ends the connection for which it finds none, and goes on: it answers, says what its
-    limit is, and once what it has is pruned it is fed again. A prune takes memory for the list of what it drops, so the first ones drop little."""
+    limit is, and is pruned. A prune takes memory for the list of what it drops, so the first ones drop little."""
     with OwnNode("--workers", 2, "-q", before=("env", "MALLOC_ARENA_MAX=1"), RLIMIT_AS=FULL_SPACE) as node:
         taken, is_told = fed_until_full(node)
         pairs = [("it said so", is_told, True), ("it took some", taken >= FULL_LEAST, True), ("a row", asked_of_full(node, say.ask(taken, say.get(1, 0))), ("row", (9, b"x" * FULL_BODY))),
-                 ("its limit", line_of_limit(node), f"memory_limit {FULL_SPACE}"), ("prunes", [asked_of_full(node, say.prune(at)) for at in (10, 20, 100, taken)], [("done", taken + at) for at in (2, 3, 4, 5)]),
-                 ("it is fed again", asked_of_full(node, new_versions(taken + 1)), ("done", taken + 6)), ("it runs on", node.child.poll(), None)]
+                 ("its limit", line_of_limit(node), f"memory_limit {FULL_SPACE}"), *pruned_of_full(node, taken), ("it runs on", node.child.poll(), None)]
     report("a node that is full", differ(pairs), f"{taken * FULL_ROWS} versions of {FULL_BODY} bytes in {megabytes(FULL_SPACE)}")
+
+
+def pruned_of_full(node, taken):
+    """A prune that drops little is made. One that drops more may have to wait for memory (42), as OPERATING has it; where none has to, the node is fed again."""
+    pairs = []
+    for at, count in ((10, 2), (20, 3), (100, 4), (taken, 5)):
+        reply = asked_of_full(node, say.prune(at))
+        if at >= 100 and reply == ("refused", 42, taken + count, 0):
+            return pairs
+        pairs.append((f"a prune up to {at}", reply, ("done", taken + count)))
+    return [*pairs, ("it is fed again", asked_of_full(node, new_versions(taken + 1)), ("done", taken + 6))]
 
 
 def line_of_limit(node):

@@ -1,5 +1,6 @@
 """What the checks of tests/checks/postgres.py share: a PostgreSQL with tables and what is captured of them, writers, and
 kills. Needs python3-psycopg2 and python3-redis."""
+import os
 import pathlib
 import random
 import subprocess
@@ -21,6 +22,11 @@ from vadungsil import Node
 from vadungsil.postgres import NotCaptured, last_time
 
 LOG, LIMIT = 7, 90
+
+
+def patience():
+    """How long is waited for what comes by itself: LIMIT, and as much longer as the machine has more to do than cores."""
+    return LIMIT * max(1, os.getloadavg()[0] / os.cpu_count())
 
 
 class Story(AssertionError):
@@ -121,15 +127,26 @@ class Shop:
         holds(said in done.stderr, f"capture said {done.stderr[-600:]!r}, wanted {said!r}")
         return done.stderr
 
+    def lost(self, size, limit=LIMIT):
+        """Told as lost (3) is what the file has behind so many bytes, also without the checksums that would show it. Then it has
+        all again."""
+        sums = self.file.with_name(f"{self.file.name}.sums")
+        whole, lines = self.file.read_bytes(), sums.read_bytes()
+        self.file.write_bytes(whole[:size])
+        sums.unlink()
+        self.captured(wanted=3, said="lost its tail, and those transactions can't be had again", limit=limit)
+        self.file.write_bytes(whole)
+        sums.write_bytes(lines)
+
     def node(self, file=None):
         """A node with the log of a file."""
         port = free_port()
         self.programs.node(port, LOG)
-        node = Node(port, limit=LIMIT)
+        node = Node(port, limit=patience())
         data = (file or self.file).read_bytes()
         if data:
             fed = subprocess.run([HKREP, "feed", "--port", str(port)], input=data, stdout=subprocess.PIPE,
-                                 stderr=subprocess.PIPE, timeout=LIMIT,
+                                 stderr=subprocess.PIPE, timeout=patience(),
                                  check=False)
             holds(fed.returncode == 0, f"feed: {fed.stderr[-300:]}")
         return node
@@ -218,19 +235,25 @@ class Writer(threading.Thread):
 
 
 class Kills:
-    """A PostgreSQL with writers, a capture into Redis, and a node behind it."""
+    """A PostgreSQL with writers, a capture into Redis or into a file, and a node behind it."""
 
-    def __init__(self, shop, seed):
+    def __init__(self, shop, seed, is_file=False):
         self.shop, self.rand = shop, random.Random(seed)
         self.redis_port, self.port = free_port(), free_port()
-        self.url = ["--redis", f"redis://127.0.0.1:{self.redis_port}"]
-        self.moments, self.skipped, self.compared = snapshots.Moments(), 0, 0
-        self.redis = shop.programs.redis(self.redis_port)
+        self.engine, self.url = "file", ["--file", shop.file]
+        self.redis, self.victims = None, ["capture", "postgres", "node", "follower"]
+        if not is_file:
+            self.engine, self.url = "redis", ["--redis", f"redis://127.0.0.1:{self.redis_port}"]
+            self.victims.append("redis")
+            self.redis = shop.programs.redis(self.redis_port)
+        self.moments, self.skipped, self.compared, self.longest = snapshots.Moments(), 0, 0, 0.0
         self.node = shop.programs.node(self.port, LOG)
-        self.follower = shop.programs.start(ROOT / "connectors" / "redis" / "follow", *self.url, "--log", LOG,
-                                            "--streams", 1, "--node", self.port)
-        self.capture = shop.capture(*self.url)
+        self.follower, self.capture = self.follow(), shop.capture(*self.url)
         self.writers = [Writer(shop, seed + number) for number in range(4)]
+
+    def follow(self):
+        return self.shop.programs.start(ROOT / "connectors" / self.engine / "follow", *self.url, "--log", LOG,
+                                        "--streams", 1, "--node", self.port)
 
     def taken(self):
         """How far the node is: its last transaction."""
@@ -242,9 +265,16 @@ class Kills:
 
     def alive(self):
         for name, child in (("capture", self.capture), ("follow", self.follower)):
-            said = self.shop.programs.said().splitlines()
-            holds(child.poll() is None, f"{name} ended with {child.returncode}: {' '.join(said[-3:])}")
+            if child.poll() is not None:
+                said = self.shop.programs.said().splitlines()
+                raise Story(f"{name} ended with {child.returncode}: {' '.join(said[-3:])}")
         return True
+
+    def come(self, look, what):
+        """Waits, beside what was killed and goes on, and remembers what took longest."""
+        begin = time.monotonic()
+        waited(lambda: self.alive() and look(), lambda: self.far(what), patience())
+        self.longest = max(self.longest, time.monotonic() - begin)
 
     def kill(self, victim):
         """kill -9, and what was killed is started anew."""
@@ -258,6 +288,9 @@ class Kills:
         elif victim == "redis":
             kill(self.redis)
             self.redis = self.shop.programs.redis(self.redis_port)
+        elif victim == "follower":
+            kill(self.follower)
+            self.follower = self.follow()
         else:
             kill(self.node)
             self.node = self.shop.programs.node(self.port, LOG)
@@ -265,22 +298,26 @@ class Kills:
     def round(self, victim):
         """A kill once the log went on by a drawn number of transactions, and a moment compared behind it."""
         place = self.taken() + self.rand.randint(1, 25)
-        waited(lambda: self.alive() and self.taken() >= place, f"the node doesn't come to {place}", LIMIT)
+        self.come(lambda: self.taken() >= place, f"transaction {place}")
         self.kill(victim)
         self.compare()
 
-    def far(self, tick):
-        """How far all are, where a tick doesn't come."""
+    def far(self, what):
+        """How far all are, where something doesn't come."""
         kept = self.shop.sql("select confirmed_flush_lsn, pg_current_wal_lsn(), active from pg_replication_slots")
-        told = redis.Redis("127.0.0.1", self.redis_port).xinfo_stream(f"hekaton:{LOG}:1")
-        return f"tick {tick} doesn't come: slot {kept}, Redis {told['last-generated-id']}, node at {self.taken()}"
+        asks = self.shop.sql("select backend_type, state, wait_event, left(query, 60) from pg_stat_activity where "
+                             "state is distinct from 'idle' and backend_type in ('client backend', 'walsender')")
+        told = self.shop.file.stat().st_size if self.engine == "file" else redis.Redis(
+            "127.0.0.1", self.redis_port).xinfo_stream(f"hekaton:{LOG}:1")["last-generated-id"]
+        return (f"{what} doesn't come at a load of {os.getloadavg()[0]:.0f}: slot {kept}, {self.engine} {told}, "
+                f"node at {self.taken()}; {asks}")
 
     def compare(self):
         """Compares a snapshot with its moment; another one where it is none."""
         for _ in range(50):
             wanted = snapshots.taken(self.shop.link, TABLES)
             with Node(self.port, limit=LIMIT) as node:
-                waited(lambda: self.alive() and come(node, wanted), lambda: self.far(wanted.tick), LIMIT)
+                self.come(lambda: has_come(node, wanted), f"tick {wanted.tick}")
                 self.moments.learn(node)
                 at = self.moments.of(wanted)
                 if at is not None:
@@ -292,7 +329,7 @@ class Kills:
         raise Story("no snapshot of 50 is a moment")
 
 
-def come(node, wanted):
+def has_come(node, wanted):
     """Whether a node has what a snapshot can show; a node that is killed meanwhile hasn't."""
     try:
         return snapshots.has_come(node, wanted)

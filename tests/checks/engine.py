@@ -31,7 +31,6 @@ import records_tried
 from checks import ended, free_port, is_built, report, skip
 from journeys import (HKREP, LOG, PATIENCE, STREAMS, WORDS, demonstration, holds, is_entry, kill, log_of, number_of, play, status, stream_of,
                       tables_of, waited)
-from blocks import walked
 from engine_log import Moved
 from feeding import Feed
 from jetstream import ApiError, Nats
@@ -39,6 +38,7 @@ from log_in_nats import LogInNats
 from servers import HOSTS, Servers, program
 from shown import of
 from vadungsil import Entry, Mark, encode
+from vadungsil.blocks import walked
 
 SIDE_BY_SIDE = 4
 KEYS = [f"hekaton_{LOG}_{stream}" for stream in range(1, STREAMS + 1)]
@@ -84,7 +84,7 @@ class Bench(journeys.Bench):
 
     def add_node(self, name):
         self.ports[name] = free_port()
-        return self.start_node(self.ports[name], "--stay", "--guard", "--messages", "2", "-q")
+        return self.start_node(self.ports[name], "-q")
 
     # ------------------------------------------------------------ connectors
 
@@ -191,12 +191,24 @@ class Bench(journeys.Bench):
         message = nats.ask_again(b"$JS.API.DIRECT.GET.%s" % key.encode(), b'{"seq":%d}' % sequence)
         return None if message.status else message
 
+    def held(self):
+        """What each server holds."""
+        return [self.servers.held(host) for host in HOSTS]
+
     def alike(self):
-        """All servers hold the same."""
+        """All servers hold the same. One that was killed and isn't filled again in a minute is started anew, as who looks after servers
+        would: now and then 2.10.27 has one stand still behind the others for minutes, with half of a stream."""
         def look():
-            held = [self.servers.held(host) for host in HOSTS]
+            held = self.held()
             return held if held[0] and all(it == held[0] for it in held) else None
-        waited(look, lambda: f"not all servers hold the same: {[self.servers.held(host) for host in HOSTS]}")
+        if not self.servers.wait(look, PATIENCE / 2):
+            held = self.held()
+            most = max(held, key=lambda it: sum(messages for messages, _, _, _ in it.values()))
+            for host in HOSTS:
+                if held[host - 1] != most:
+                    self.servers.kill(host)
+                    self.servers.serve(host)
+        waited(look, lambda: f"not all servers hold the same: {self.held()}")
 
     def finished(self, frames=None, first=1):
         """All of the log is there once, and both nodes show it; `first` is the first entry that is still there."""
@@ -432,7 +444,7 @@ def several_nodes(it):
     it.give(writer, it.frames[it.cut:], ends=True)
     status(writer)
     it.fed(it.entries, "one", "two")
-    it.start_node(it.ports["three"], "--stay", "--guard", "--messages", "2", "-q")
+    it.start_node(it.ports["three"], "-q")
     it.fed(it.entries, "three")
     it.finished()
 

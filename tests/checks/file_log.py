@@ -1,6 +1,9 @@
 #!/usr/bin/env python3
 """Checks of a log in a file and of its followers (connectors/file): its checksums, what is corrupt or torn, and nodes that are stopped, refuse or
-trickle beside others. Sums are made here from docs/FORMATS.md, by hashlib.
+trickle beside others. Sums are made and judged here from docs/FORMATS.md, by hashlib.
+
+    file_log.py                  all of it, with 200 flips of a bit
+    file_log.py flips 50000 7    so many flips, and a fifth as many cuts, zeroed and doubled blocks, of this seed: by hand
 
 Prints a line for each check and ends with 'N passed, M failed'. Needs bin/hkrep. Standard library only."""
 import contextlib
@@ -16,14 +19,20 @@ import sys
 import tempfile
 import threading
 import time
+from types import SimpleNamespace
 
 ROOT = pathlib.Path(__file__).resolve().parents[2]
 sys.path[:0] = [str(ROOT / "tests" / "lib"), str(ROOT / "clients" / "python"), str(ROOT / "connectors" / "file"), str(ROOT / "connectors" / "common")]
 from checks import differ, ended, free_port, guarded, is_built, report
+from damaged import damaged
+import reference
 from staying import PROGRAM, Running
-from vadungsil import LogWriter, Node, encode
+from vadungsil import LogFile, LogWriter, Node, encode, item_file
+from vadungsil.blocks import Cutter, frames_of, in_blocks
+from vadungsil.errors import Broken
 
-from blocks import Broken, Cutter, in_blocks
+import following
+from engine_log import Behind
 from log_in_file import LogInFile
 
 LOG, FOLDER, FLIPS = 9, pathlib.Path(tempfile.mkdtemp(prefix="file_log")), 200
@@ -31,6 +40,17 @@ FOLLOW = ROOT / "connectors" / "file" / "follow"
 # a node that is stopped costs the others less than this, in seconds
 SOON, LIMIT = 1.0, 60
 OLD = "corrupt bytes may not show; its writer makes one with --trust"
+# what stands behind the last checksum: how many entries have one, what stands there as (item, bytes of it) pairs, and whether a writer leaves so much
+# (docs/FORMATS.md, "A log in a file": one block at most, of 65,536 bytes or one frame, and the first of a file is one frame; of the longest frame where
+# the disk lacks how long it is)
+SMALL, LARGE, TORN, MANY, BLOCK = "an entry of 200 bytes", "an entry of 30 rows", "an entry of 30 rows without its head", "400 entries", 65_536
+BEHIND = ((0, [(SMALL, 3)], True), (0, [(SMALL, 100)], True), (0, [(SMALL, None)], True), (0, [(SMALL, None), (SMALL, 1)], False), (0, [(SMALL, None)] * 40, False),
+          (0, [(LARGE, None)], True), (0, [(LARGE, None), (SMALL, 1)], False), (40, [(SMALL, 100)], True), (40, [(MANY, BLOCK)], True), (40, [(MANY, BLOCK + 1)], False), (40, [(MANY, None)], False),
+          (40, [(LARGE, 100_000)], True), (40, [(LARGE, None)], True), (40, [(LARGE, None), (SMALL, 1)], False), (0, [(TORN, None)], True), (40, [(TORN, None)], True),
+          (40, [(TORN, None)] + [(LARGE, None)] * 36, False))
+REFUSED = ("stream 1: byte {place} of {path}: {rest} bytes stand behind the last checksum, more than the one block that a writer leaves: {path}.sums is older, or another file's."
+           " Put back that of the same copy, or have the writer make it (--trust)")
+TAKEN = "byte {place} of {path}: {rest} bytes that have no checksum yet are taken away"
 
 
 class Own(Running):
@@ -92,11 +112,13 @@ def a_file():
     path, sums = files("whole.log")
     data, lines = path.read_bytes(), sums.read_bytes()
     found = [(int(words[0]), int(words[1])) for words in map(bytes.split, lines.splitlines())]
+    first, least = (4 + int.from_bytes(data[:4], "big"), 1), [end - begin for (begin, _), (end, _) in zip(found, found[1:])]
     items = subprocess.run([str(PROGRAM), "items"], input=data, capture_output=True, timeout=LIMIT, check=False)
     with Own() as node:
         told = followed("whole.log", node.port)
         pairs = [("a follower", (told[0], readable(node.port)), (0, 900)), ("says nothing of checksums", OLD in told[1], False)]
-    report("a file's checksums", differ([*pairs, ("as FORMATS has them", lines, lines_by_hand(data, found)), ("the blocks", found[:5], ends), ("the last", found[-1], (len(data), 900)),
+    report("a file's checksums", differ([*pairs, ("as FORMATS has them", lines, lines_by_hand(data, found)), ("the first is one frame", found[0], first), ("the blocks", found[1:6], ends),
+                                         ("64 KB at most", max(least) <= BLOCK, True), ("the last", found[-1], (len(data), 900)),
                                          ("kept", log.kept[:5] + log.kept[-1:], [40, 80, 120, 160, 200, 900]), ("frames alone", (items.returncode, items.stdout.count(b"commit")), (0, 900))]))
 
 
@@ -109,32 +131,56 @@ def looked(name):
         store.drop()
 
 
-def flips():
-    """A flip anywhere in either file, a cut of the file, or a line less in the middle: a reader stops before that block, and names it."""
-    chance, silent = random.Random(5), []
-    good, lines = (it.read_bytes() for it in files("whole.log"))
-    ends = [int(line.split()[0]) for line in lines.splitlines()]
-    for number in range(FLIPS):
-        data, sums = bytearray(good), bytearray(lines)
-        of_sums = number % 4 == 0
-        at = chance.randrange(len(sums) - 1 if of_sums else len(data))
-        (sums if of_sums else data)[at] ^= 1 << chance.randrange(8)
-        for it, text in zip(files("bad.log"), (data, sums)):
-            it.write_bytes(text)
-        size, why = looked("bad.log")
-        begin = sums[:at].count(b"\n") if of_sums else sum(end <= at for end in ends)
-        before = ([0] + ends)[begin]
-        if size > before or not why or not re.search(r"byte \d+ of ", why) or "corrupt" not in why:
-            silent.append((number, of_sums, at, size, before, why))
-    for name, text, wanted in (("cut", good[:-100], "lost its tail"), ("a byte less", good[:50] + good[51:], "corrupt")):
-        for it, what in zip(files("bad.log"), (text, lines)):
+def judged(data, sums):
+    """What docs/FORMATS.md has a reader make of both: up to where it reads, and whether it stops there."""
+    before, begin, last = b"", 0, 0
+    *lines, torn_line = sums.split(b"\n")
+    if not torn_line and lines and b"\0" in lines[-1] and len(lines[-1]) < 128:
+        torn_line = lines.pop()
+    for line in (it + b"\n" for it in lines):
+        words = re.fullmatch(rb"(0|[1-9]\d*) (0|[1-9]\d*) ([0-9a-f]{64})\n", line)
+        end = int(words[1]) if words else 0
+        own = hashlib.sha256(before + data[begin:end]).hexdigest().encode()
+        if not begin < end <= len(data) or words[3] != own:
+            return begin, True
+        numbers = [int.from_bytes(frame[16:24], "big") for frame in frames_of(data[begin:end]) if frame[5] == 1]
+        last = numbers[-1] if numbers else last
+        if int(words[2]) != last:
+            return begin, True
+        before, begin = line, end
+    length = int.from_bytes(data[begin:begin + 4], "big")
+    is_torn = reference.items_of(data[begin:begin + 4 + length])[1] is not None
+    most = max(4 + (reference.LARGEST_REST if is_torn else length), BLOCK if begin else 0)
+    return begin, len(data) - begin > most or len(torn_line) > 128
+
+
+def flips(count=FLIPS, seed=5):
+    """A flip, a cut, a zeroed or doubled block anywhere in either file: a reader stops before that block, and names it, but where it looks as a writer
+    leaves it, with one block without its line."""
+    chance, silent, tried = random.Random(seed), [], {}
+    good = [it.read_bytes() for it in files("whole.log")]
+    for which, share in ((0, 3 * count // 4), (1, count // 4)):
+        for kind, data in damaged(good[which], share, chance):
+            both = [data, good[1]] if which == 0 else [good[0], data]
+            for it, text in zip(files("bad.log"), both):
+                it.write_bytes(text)
+            wanted = judged(*both)
+            size, why = looked("bad.log")
+            kind = kind if wanted[1] else f"{kind} as a writer leaves it"
+            tried[kind] = tried.get(kind, 0) + 1
+            # of a block that isn't what its line says some items may have been looked at; none is handed on
+            is_named = bool(why) and re.search(r"byte \d+ of ", why) and re.search("corrupt|stand behind the last checksum", why)
+            if size != wanted[0] or bool(is_named) != wanted[1]:
+                silent.append((which, kind, len(data), size, wanted, why))
+    for name, text, words in (("cut", good[0][:-100], "lost its tail"), ("a byte less", good[0][:50] + good[0][51:], "corrupt")):
+        for it, what in zip(files("bad.log"), (text, good[1])):
             it.write_bytes(what)
-        if wanted not in looked("bad.log")[1]:
+        if words not in looked("bad.log")[1]:
             silent.append((name, looked("bad.log")))
     with Own() as node:
         told = followed("bad.log", node.port)
         pairs = [("a follower", (told[0], readable(node.port)), (3, 0)), ("says which block", "byte 0 of " in told[1] and "corrupt" in told[1], True)]
-    report(f"each of {FLIPS} flips stops a reader before its block", differ([("silent", silent, []), *pairs]))
+    report("damage to either file stops a reader before its block", differ([("silent", silent, []), *pairs]), f"{dict(sorted(tried.items()))}, {len(silent)} silent")
 
 
 def torn():
@@ -195,6 +241,142 @@ def of_before():
     store.drop()
     pairs += [("trusted", looked("old.log"), (len(data), ""))]
     report("a file without checksums", differ(pairs))
+
+
+# ---------------------------------------------------------------- more than a writer leaves
+
+def behind(name, kept, items):
+    """A log of which so many entries have a checksum, and behind that what a row of BEHIND says: how long the first is, and how much follows."""
+    log = Log(name)
+    if kept:
+        log.add(kept)
+    place, bodies = log.store.places.size, {SMALL: [b"x" * 200], MANY: [b"x" * 200], LARGE: [b"x" * 4000] * 30, TORN: [b"x" * 4000] * 30}
+    log.store.drop()
+    count = {SMALL: 1, LARGE: 1, TORN: 1, MANY: 400}
+    frames = [(b"".join(encode(log.log.commit(puts=[(1, key, 9, body) for key, body in enumerate(bodies[kind])])) for _ in range(count[kind])), size) for kind, size in items]
+    rest = b"".join(bytes(600) + frame[600:size] if kind == TORN else frame[:size] for (frame, size), (kind, _) in zip(frames, items))
+    with open(FOLDER / name, "ab") as file:
+        file.write(rest)
+    return place, len(rest)
+
+
+def prepared(name, trust=False):
+    """What a writer says that begins with a file, and its status, or None where it begins."""
+    store, said = LogInFile(str(FOLDER / name), LOG, False, trust), []
+    store.say = said.append
+    try:
+        store.prepare()
+        return said, None
+    except Broken as broken:
+        return [*said, str(broken)], broken.status
+    finally:
+        store.drop()
+
+
+def one_behind(number, kept, items, is_left):
+    name = f"behind{number}.log"
+    place, rest = behind(name, kept, items)
+    before, words = [it.read_bytes() for it in files(name)], {"place": place, "path": FOLDER / name, "rest": rest}
+    read = looked(name)
+    told = prepared(name)
+    after = [it.read_bytes() for it in files(name)]
+    wanted = (place, ""), ([TAKEN.format(**words)], None), [before[0][:place], before[1]]
+    if not is_left:
+        wanted = (place, REFUSED.format(**words)), ([REFUSED.format(**words)], 3), before
+    return [(f"{name}: a reader", read, wanted[0]), (f"{name}: a writer", told, wanted[1]), (f"{name}: the files", after, wanted[2])]
+
+
+def more_behind():
+    """Behind the last line a block may stand, which the writer takes away. Where more stands there it doesn't begin, changes nothing and says why."""
+    report("more than a writer leaves behind the last checksum stays", differ([pair for number, row in enumerate(BEHIND) for pair in one_behind(number, *row)]))
+
+
+def put_back():
+    """A log that was put back beside the empty checksums of a start: nothing is lost, and each of the two ways on has all of it."""
+    whole, sums = files("back.log")
+    Log("back.log").store.drop()
+    data, lines = (it.read_bytes() for it in files("whole.log"))
+    pairs = [("a start over an empty log", (whole.read_bytes(), sums.read_bytes()), (b"", b""))]
+    shutil.copy(files("whole.log")[0], whole)
+    refused = REFUSED.format(place=0, path=whole, rest=len(data))
+    with Own() as node:
+        told = followed("back.log", node.port)
+        pairs += [("a follower", (told, readable(node.port)), ((3, f"follow: {refused}\n"), 0)), ("a writer", prepared("back.log"), ([refused], 3)),
+                  ("nothing is lost", (whole.read_bytes() == data, sums.read_bytes()), (True, b""))]
+        sums.write_bytes(lines)
+        pairs += [("with its checksums", (prepared("back.log"), followed("back.log", node.port)[0], readable(node.port)), (([], None), 0, 900))]
+    sums.write_bytes(b"".join(lines.splitlines(True)[:3]))
+    place = int(lines.splitlines()[2].split()[0])
+    refused = REFUSED.format(place=place, path=whole, rest=len(data) - place)
+    with Own() as node, Own() as other, Own() as third:
+        told, several = followed("back.log", node.port), followed("back.log", other.port, third.port, more=())
+        pairs += [("older ones", (told, readable(node.port)), ((3, f"follow: {refused}\n"), 80)), ("of several nodes", several, told), ("trust", prepared("back.log", True), ([], None)),
+                  ("nothing is lost", (whole.read_bytes() == data, looked("back.log")), (True, (len(data), ""))), ("all is fed", (followed("back.log", node.port)[0], readable(node.port)), (0, 900))]
+    report("a log put back beside empty or older checksums loses nothing", differ(pairs))
+
+
+class Crash(BaseException):
+    """The writer is no more, where it stands."""
+
+
+def crashed(name, store, blocks, at):
+    """A writer that ends before its write of this number, or halfway in it; whether it came to it."""
+    count, write = [0], item_file.os.write
+
+    def some(file, data):
+        count[0] += 1
+        if count[0] <= at // 2:
+            return write(file, data)
+        if at % 2:
+            write(file, data[:len(data) // 2])
+        raise Crash
+    item_file.os.write = some
+    try:
+        store.append(1, store.places.size, blocks, lambda _: None)
+        return False
+    except Crash:
+        return True
+    finally:
+        item_file.os.write = write
+        store.drop()
+
+
+def crashes():
+    """Wherever a writer ends in an append of many blocks, the next one begins: what it leaves isn't more than it may, and what has a line stays."""
+    log, pairs, at, is_on = LogWriter(LOG, 1), [], 0, True
+    sizes = [[b"x" * 200]] * 900 + [[b"x" * 4000] * 30] * 2 + [[b"x" * 200]] * 10
+    data = b"".join(encode(log.commit(puts=[(1, key, 9, body) for key, body in enumerate(bodies)])) for bodies in sizes)
+    frames = Cutter().cut(data)
+    while is_on:
+        name = f"crash{at}.log"
+        store = LogInFile(str(FOLDER / name), LOG, False)
+        store.prepare()
+        is_on = crashed(name, store, in_blocks(frames, 0, 4 * BLOCK), at)
+        lines = files(name)[1].read_bytes()
+        kept = int(lines.rpartition(b"\n")[0].split(b"\n")[-1].split()[0]) if b"\n" in lines else 0
+        read, status = looked(name), prepared(name)[1]
+        pairs.append((f"crash {at}", (read, status, files(name)[0].read_bytes() == data[:kept]), ((kept, ""), None, True)))
+        at += 1
+    report("wherever a writer ends, the next one begins", differ([*pairs, ("how many", at >= 30, True), ("the last has all", kept, len(data))]), f"{at - 1} places")
+
+
+def another_file():
+    """A reader in the place of whose file another one has come, whose places are others, reads nothing of it, and begins anew."""
+    with LogFile(FOLDER / "compacted.log", LOG, clock=False) as log:
+        for number in range(20):
+            log.commit([(1, number, 9, b"x" * 200)])
+        store = LogInFile(log.path, LOG)
+        reading, gone = store.reading({1: 5}, 1), log.compact(log.time - 3)
+        store.drop()      # as a look does that sees it
+        log.commit([(1, 30, 9, b"y" * 4000)])
+        try:
+            said = reading.read(0)
+        except Behind as behind:
+            said = str(behind)
+        found = [block.last for _, _, block in store.reading({1: log.number(1) - 1}, 1).read(0)]
+        store.drop()
+    wanted = f"{log.path} was compacted, or its checksums were made anew"
+    report("another file in the place of one that is read", differ([("dropped", gone > 10, True), ("the reader", said, wanted), ("begun anew", found[-1], log.number(1))]))
 
 
 # ---------------------------------------------------------------- several nodes
@@ -299,6 +481,16 @@ def others_beside():
            f"at most {most:.2f} s late")
 
 
+def said_again():
+    """A refusal that goes on is said once, and a minute later with how often it was; another one at once."""
+    said = []
+    refusals = following.Refusals(SimpleNamespace(say=said.append))
+    for text, later in (("one", 0), ("one", 1), ("one", 58), ("one", 2), ("one", 1), ("two", 0), ("one", 0)):
+        refusals.said -= later
+        refusals.say(text)
+    report("a refusal that goes on is said once a minute", differ([("said", said, ["one; trying again", "one (4 times); trying again", "two; trying again", "one; trying again"])]))
+
+
 def one_alone():
     """A node alone that refuses ends its follower, with 4; and what is corrupt ends that of several for all, with 3."""
     with Own(log=LOG + 1) as other, Own() as one, Own() as two:
@@ -310,11 +502,18 @@ def main():
     if not is_built(PROGRAM):
         return ended()
     start = time.monotonic()
-    for check in (a_file, flips, torn, of_before, a_stopped_node, others_beside, one_alone):
+    if sys.argv[1:2] == ["flips"]:
+        guarded(a_file)
+        guarded(flips, int(sys.argv[2]), int(sys.argv[3]))
+        return ended()
+    for check in (a_file, flips, torn, of_before, more_behind, put_back, crashes, another_file, a_stopped_node, others_beside, said_again, one_alone):
         guarded(check)
     print(f"logs in files: {time.monotonic() - start:.1f} s")
     return ended()
 
 
 if __name__ == "__main__":
-    sys.exit(main())
+    try:
+        sys.exit(main())
+    finally:
+        shutil.rmtree(FOLDER, ignore_errors=True)

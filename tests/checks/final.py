@@ -186,7 +186,7 @@ def started(words):
 def one_story(is_guarded, seed, most):
     """Messages to one node, until nothing of it can be read any more, or it is damaged."""
     source = random.Random(f"final {seed}")
-    words = ["-q", "--messages", "2", *(["--guard"] if is_guarded else [])]
+    words = ["-q", *([] if is_guarded else ["--no-guard"])]
     with started(words) as node:
         story, reader = Story(node, source), Reader(source)
         told = story.told

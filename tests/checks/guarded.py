@@ -43,16 +43,16 @@ def facts(items):
 def taken(held, items):
     """The items held after these, absorbed one after the other, and None; or those held before, and the first refusal's number, or 23 where an
     entry stands otherwise in those after than it is told. The horizon is 0, so each is compared."""
-    after = held
+    after = reference.Held(7, STREAMS)
     try:
-        for item in items:
-            after = reference.absorbed(after, item, 7, STREAMS)
+        for item in held + items:
+            after.absorb(item)
     except reference.Refused as refused:
         return held, refused.args[0]
-    for known, told in zip(facts(after), facts(items)):
+    for known, told in zip(facts(after.items), facts(items)):
         if any(known.get(version) != it for version, it in told.items()):
             return held, 23
-    return after, None
+    return after.items, None
 
 
 def rows_at(held, time):
@@ -62,7 +62,7 @@ def rows_at(held, time):
 def one_node(seed, told):
     """Lists to a new node; counts what was told of them."""
     source, held, done, problems = random.Random(seed), [], 1, []
-    with Staying(2, "-q", "--guard", streams=STREAMS) as node, node.link() as link, node.link() as other:
+    with Staying(2, "-q", streams=STREAMS) as node, node.link() as link, node.link() as other:
         for at in range(LISTS):
             items = [(entry if source.random() < 0.7 else mark)(source, at + 2) for _ in range(source.randint(1, 4))]
             held, number = taken(held, items)
@@ -88,7 +88,7 @@ def beside_the_reference():
     report("lists of items that may contradict, beside the reference", problems, f"{NODES * LISTS} lists")
 
 
-def without_stay():
+def so_many_links():
     """A guarded node that serves so many links and ends."""
     port = free_port()
     conflict = say.join_this(facts=[(1, 5, 1, (9, b"\x43"), None)])
@@ -102,13 +102,13 @@ def without_stay():
                       ("a prune", link.ask(say.prune(1)), ("done", 3))]
         out, _ = node.communicate(timeout=30)
         pairs.append(("its end", (out, node.returncode), ("ended 0\n", 0)))
-    report("a guarded node that doesn't stay", differ(pairs))
+    report("a guarded node that serves so many links", differ(pairs))
 
 
 def main():
     if not is_built(PROGRAM):
         return ended()
-    for check in (beside_the_reference, without_stay):
+    for check in (beside_the_reference, so_many_links):
         check()
     return ended()
 

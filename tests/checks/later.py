@@ -66,7 +66,7 @@ def without_it():
 def links_that_only_read():
     """On a port for those who only read, what changes or holds has no meaning."""
     reading = ("Streams", "AskLatest", "Page", "Whole", "More", "Await")
-    with Staying(1, *LATER, reading=1) as node:
+    with Staying(1, reading=1) as node:
         with node.link() as link:
             link.ask(ALL)
         pairs = [("a link ends", node.line(), "ended 0")]
@@ -122,12 +122,12 @@ def holds():
             pairs += [(f"{name}: {it}", got, wanted) for it, got, wanted in (
                 ("the first link's hold stands", least_hold(asker, 2), 2), ("a prune stops there", (asker.ask(say.prune(3))[0], asker.ask(say.front())), ("done", ("front", 2, 3))),
                 ("it is released", first.ask(say.release(1))[0], "done"), ("and none stands", least_hold(asker, None), None))]
-    with Staying(2, *LATER) as node, node.link() as asker:
+    with Staying(2) as node, node.link() as asker:
         asker.ask(ALL)
         for number in range(1, 31):
             with node.link() as link:
                 pairs.append((f"hold {number} of a place", link.ask(say.hold(1)), ("held", number, 1)))
-            pairs += [("its link's end", node.line(), "ended 0"), ("let go", least_hold(asker, None), None)]
+            pairs.append(("let go", least_hold(asker, None), None))
     report("holds end with their link, and with no other", differ(pairs))
 
 
@@ -188,7 +188,7 @@ def many_at_once():
             if number % 2:
                 end_reset(link)
 
-    with Staying(9, *LATER) as node, node.link() as writer:
+    with Staying(9) as node, node.link() as writer:
         first = [say.entry(n, n, [(1, n % 7, 9, b"")], [(1, n % 7, n - 7)] if n > 7 else []) for n in range(1, 21)]
         writer.ask(say.items(*first, say.mark(1, 20, 20)))
         threads = [threading.Thread(target=work, args=(node, number), daemon=True) for number in range(8)]
@@ -230,12 +230,12 @@ def told_at_once(link, request):
 
 def waits():
     """A wait ends once its time can be read, or after its milliseconds; what is behind it waits, and nobody else does. What is ready is written
-    before. Nodes that don't stay, and those that failed, answer at once."""
+    before. Nodes of `serve`, and those that failed, answer at once."""
     entry, marked = say.items(E1), say.items(say.mark(1, 1, 5))
     with Node(1, words=LATER) as node, node.link() as link:
-        pairs = [("without --stay", told_at_once(link, say.wait(9, LONG)), (("ready", 0, 0), True))]
+        pairs = [("of serve", told_at_once(link, say.wait(9, LONG)), (("ready", 0, 0), True))]
     with contextlib.ExitStack() as stack:
-        node = stack.enter_context(Staying(3, *LATER, reading=8, feeding=1))
+        node = stack.enter_context(Staying(3, "--no-guard", reading=8, feeding=1))
         waiting, other, late = (stack.enter_context(node.link()) for _ in range(3))
         readers = [stack.enter_context(node.link(node.read_port)) for _ in range(8)]
         feeder = stack.enter_context(node.link(node.feed_port))
@@ -418,17 +418,17 @@ def of_version_1(node):
         with plain.pipeline() as pipe:
             later = pipe.items([first])
         pairs.append(("in a pipeline", (later.result(), later.result().new), (8, None)))
-    return pairs + [("ends", sorted(node.line() for _ in range(5)), ["ended 0"] * 3 + ["ended 3"] * 2)]
+    return pairs + [("ends", sorted(node.ends()[0]), [0] * 3 + [3] * 2)]
 
 
 def python_feeds():
     """`items` of the Python client tells how many were new where the node reads version 2, and so does its command."""
-    with Staying(4, *LATER, reading=1, feeding=1) as node:
+    with Staying(4, reading=1, feeding=1) as node:
         pairs = of_version_2(node)
         for words, told in (((), ""), (("--messages", "2"), "new 0 of 2\n"), (("--messages", "1"), "")):
             done = subprocess.run([sys.executable, "-m", "vadungsil", "--port", str(node.port), "feed", *words], input=E1 + say.mark(1, 1, 1), cwd=PACKAGE, capture_output=True, timeout=LIMIT, check=False)
             pairs.append((f"feed {words}", (done.stdout[:5], done.stderr.decode(), done.returncode), (b"done ", told, 0)))
-    with Staying(4) as node:
+    with Node(5) as node:
         pairs += [(f"version 1: {it}", got, wanted) for it, got, wanted in of_version_1(node)]
     lying = va.later.encode_reply(va.later.Fed(2, 2))
     with Peer([(1, 0, False)], reply=lying) as peer, va.Node(peer.port, messages=2) as node:

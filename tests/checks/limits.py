@@ -21,7 +21,6 @@ from checks import differ, ended, free_port, guarded, is_built, report
 from messages import E1
 from staying import LIMIT, PROGRAM, OwnNode, Running, Staying, is_silent
 
-LATER = ("--messages", "2")
 PUSHED = say.items(E1, say.mark(1, 1, 1))
 GET = say.ask(1, say.get(1, 5))
 ROW = ("row", (9, b"\x41"))
@@ -61,7 +60,7 @@ def unread_replies():
             pairs += [("who reads slowly", read_slowly(slow, 3) > 3_000_000, True), ("who doesn't", node.line(), "ended 92")]
             pairs += [("within its time", time.monotonic() - start < 10, True), ("the slow one goes on", slow.socket.recv(1) != b"", True), ("and nobody else ended", node.lines.empty(), True)]
         pairs += [("another link", link.ask(say.front()), ("front", 0, 1)), ("it is told", any("link 2: ended 92: " in it for it in words_once(node, "ended 92")), True)]
-    with Staying(2) as node, node.link() as link, node.link() as stuck:
+    with Staying(2, "--write-seconds", "0") as node, node.link() as link, node.link() as stuck:
         pairs += [("items", link.ask(LARGE), ("done", 2))]
         stuck.send(UNREAD)
         time.sleep(2)
@@ -89,7 +88,7 @@ def all_of(link, size):
 
 def silent_links():
     """With a limit of a second a link ends that says nothing between frames; not one that waits, or asks now and then. Without it none does."""
-    with Staying(5, *LATER, "--idle-seconds", "1") as node, Staying(1) as other:
+    with Staying(5, "--idle-seconds", "1") as node, Staying(1) as other:
         with node.link() as silent, node.link() as waiting, node.link() as asking, other.link() as free:
             waiting.send(say.wait(9, 3_000))
             pairs, start = [("it speaks first", silent.ask(say.front()), ("front", 0, 0))], time.monotonic()
@@ -124,7 +123,7 @@ def trickle(listener):
 
 def slow_sources():
     """A node to begin with which trickles is given up half a minute after its reply began, and the next is asked."""
-    good = Staying(2, *LATER)
+    good = Staying(2)
     with good, socket.create_server(("127.0.0.1", 0)) as slow, good.link() as link:
         link.ask(LARGE)
         threading.Thread(target=trickle, args=(slow,), daemon=True).start()
@@ -142,7 +141,7 @@ def slow_frames():
     """With a rate a link ends half a minute after a frame began of which a byte comes now and then, though it is never silent for long; not one that is quicker, or
     that waited meanwhile, and none where there is no rate."""
     begun = say.u32(8_000_000) + b"\1\x10" + bytes(100)
-    with Staying(3, *LATER, "--read-seconds", "20", "--read-rate", "1024") as node, Staying(1, "--read-seconds", "20") as other:
+    with Staying(3, "--read-seconds", "20", "--read-rate", "1024") as node, Staying(1, "--read-seconds", "20", "--read-rate", "0") as other:
         with node.link() as slow, node.link() as quick, node.link() as waiting, other.link() as free:
             start = time.monotonic()
             waiting.send(say.wait(9, 32_000) + say.front()[:5])
@@ -164,7 +163,7 @@ def kept_bytes():
     """What all links make a node keep has one limit, by each name of it: a frame or a reply beyond that ends its link with 90, and no other."""
     pairs = []
     for name in ("--link-bytes", "--parts-bytes"):
-        with Staying(5, *LATER, name, "3000000") as node, node.link() as link:
+        with Staying(5, name, "3000000") as node, node.link() as link:
             pairs += [("items", link.ask(LARGE), ("done", 2))]
             with node.link() as half, node.link() as second:
                 half.send(say.u32(8_000_000) + b"\1\x10" + bytes(1_000_000))
@@ -185,8 +184,8 @@ def kept_bytes():
 def halves():
     """Where readers have a port or a socket, one half of what all links make a node keep is for them, and the other for all others: who uses up one takes nothing
     of the other. Without one all is for all."""
-    words, whole, told = [*LATER, "--link-bytes", "6000000"], say.whole(0, 1_000), ("refused", 46)
-    with tempfile.TemporaryDirectory() as folder, Staying(6, *words, reading=3) as node, OwnNode(*words[2:], "--read-socket", f"{folder}/read") as own, Staying(3, *words) as shared:
+    words, whole, told = ["--link-bytes", "6000000"], say.whole(0, 1_000), ("refused", 46)
+    with tempfile.TemporaryDirectory() as folder, Staying(6, *words, reading=3) as node, OwnNode(*words, "--read-socket", f"{folder}/read") as own, Staying(3, *words) as shared:
         for name, its, reader in (("a port", node, lambda: node.link(node.read_port)), ("a socket", own, lambda: At(f"{folder}/read"))):
             with its.link() as link, its.link() as other, reader() as first, reader() as second, reader() as third:
                 pairs = [("items", link.ask(LARGE), ("done", 2)), ("a reader's snapshot", first.ask(whole)[0], "part"), ("one more", second.ask(whole)[:2], told), ("a feeder's frame", link.ask(LARGE), ("done", 3))]
@@ -201,7 +200,7 @@ def halves():
 
 def unread_bytes():
     """A peer that never reads is read no further once its replies are many; the node's memory stays small, and all replies come at last."""
-    with Staying(3, *LATER) as node, node.link() as link:
+    with Staying(3) as node, node.link() as link:
         pairs, front = [("a push", link.ask(PUSHED), ("done", 2))], say.front()
         with node.link() as stuck:
             before, sent = node.memory(), 0
@@ -225,7 +224,7 @@ def unread_bytes():
 def before_a_wait():
     """What stands before a wait is written while that goes on, once the peer reads again."""
     rows, wanted = [(1, key, 9, b"x" * 1_000) for key in range(100)], len(say.spelled(say.fields_of_one((9, b"x" * 1_000))))
-    with Staying(5, *LATER) as node, node.link() as link:
+    with Staying(5) as node, node.link() as link:
         pairs = [("items", link.ask(say.items(say.entry(1, 1, rows), say.mark(1, 1, 1))), ("done", 2))]
         for size in (20_000, 60_000, 100_000, 140_000):
             with contextlib.closing(small_link(node.port)) as waiting:
@@ -240,7 +239,7 @@ def before_a_wait():
 def pinned_times():
     """All links pin 65,536 times together; one more is refused, until a link ends that has some."""
     each, full = 1_024, ("refused", 46, 65_536, 0)
-    with Staying(70, *LATER) as node, contextlib.ExitStack() as stack:
+    with Staying(70) as node, contextlib.ExitStack() as stack:
         links = [stack.enter_context(node.link()) for _ in range(65)]
         pairs = [("a push", links[0].ask(PUSHED), ("done", 2))]
         for link in links[:64]:
@@ -260,7 +259,7 @@ def long_answers():
     """Short and long answers of one connection come in the order that was asked, by few workers; and a link that is asked for snapshots again and again, and
     doesn't take them, holds up nobody."""
     pairs, times = [], []
-    with Staying(4, *LATER, "--workers", "1") as node, node.link() as link, node.link() as heavy, node.link() as mixed:
+    with Staying(4, "--workers", "1") as node, node.link() as link, node.link() as heavy, node.link() as mixed:
         pairs += [("items", link.ask(LARGE), ("done", 2))]
         mixed.send((say.front() + say.ask(1, say.scan(1, 3, 4)) + say.ask(1, say.count(1)) + say.whole(0, 1_000_000) + say.more() + say.wait(1, 10) + say.front()) * 3)
         pairs.append(("in order", [mixed.reply()[0] for _ in range(21)], ["front", "rows", "number", "part", "part", "ready", "front"] * 3))
@@ -293,7 +292,7 @@ def ran(*words):
 
 
 def paths():
-    """Unix domain sockets beside the ports of `node` and `serve --stay`: one takes everything, the other changes nothing; both are their owner's alone. A socket that nobody listens on is
+    """Unix domain sockets beside the ports of a node: one takes everything, the other changes nothing; both are their owner's alone. A socket that nobody listens on is
     replaced; one that somebody listens on isn't, nor is a file that is no socket."""
     with tempfile.TemporaryDirectory() as folder:
         notes = pathlib.Path(folder) / "notes"
@@ -311,9 +310,6 @@ def paths():
                 pairs += [("a path in use", (taken.returncode, f"refused 93: can't listen at {path}: " in taken.stderr), (1, True)), ("and it goes on", link.ask(GET), ROW)]
             if turn == 0 and differ(pairs):
                 break
-        with Staying(2, "--socket", path, "--read-socket", read_path), At(path) as link, At(read_path) as reading:
-            pairs += [("serve's modes", [stat.S_IMODE(pathlib.Path(it).stat().st_mode) for it in (path, read_path)], [0o600] * 2), ("a push to serve", link.ask(PUSHED), ("done", 2)),
-                      ("its reader", reading.ask(GET), ROW), ("its reader's push", reading.ask(PUSHED)[:2], ("refused", 2))]
         pairs += [*kept, ("the file stays at the end", pathlib.Path(path).is_socket(), True)]
     report("Unix domain sockets", differ(pairs))
 
@@ -333,7 +329,7 @@ def chosen_ports():
         with Running(["node", "--log", "7", "--streams", "1", "--port", "0", "--address", "::1"]) as node:
             found = re.fullmatch(r"listening on (\[::1\]:\d+) for .*", node.line() or "")
             pairs.append(("an IPv6 address", bool(found) and ran("front", "--node", found[1]), ("front horizon 0 readable 0\n", 0)))
-    for words, form in ((["serve", "--links", "2"], r"listening (\d+)"), (["serve", "--stay", "--links", "2"], r"listening (\d+)"), (["node"], r"listening on 127\.0\.0\.1:(\d+) for .*")):
+    for words, form in ((["serve", "--links", "2"], r"listening (\d+)"), (["node"], r"listening on 127\.0\.0\.1:(\d+) for .*")):
         with Running([*words, "--log", "7", "--streams", "1", "--port", "0"]) as node:
             found = re.fullmatch(form, node.line() or "")
             pairs.append((f"{words[0]} tells its port", bool(found) and found[1] != "0", True))
@@ -346,10 +342,8 @@ def chosen_ports():
 def few_files():
     """With room for 64 files a node says how many links it serves at once; the others wait until some have gone, and none is lost."""
     told = r".*\b\d+ of 1000 connections are served at once: .* 64 files; .*'ulimit -n'"
-    with OwnNode("--links", 1_000, "--workers", 2, RLIMIT_NOFILE=64) as node:
-        pairs = [("a node tells it at the start", any(re.match(told, it) for it in words_once(node, "ulimit -n")), True)]
     with Staying(1_000, "--workers", "2", RLIMIT_NOFILE=64) as node:
-        pairs.append(("and so does serve", any(re.match(told, it) for it in words_once(node, "ulimit -n")), True))
+        pairs = [("it is told at the start", any(re.match(told, it) for it in words_once(node, "ulimit -n")), True)]
         links, answered = [node.link() for _ in range(100)], 0
         for link in links:
             link.send(say.front())

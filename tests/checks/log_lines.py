@@ -1,5 +1,5 @@
 #!/usr/bin/env python3
-"""Checks of the lines that `hkrep node` and `hkrep serve --stay` write to standard error: how many there are in a second, what a conflict says, what
+"""Checks of the lines that `hkrep node` writes to standard error: how many there are in a second, what a conflict says, what
 bytes of another protocol say, and the lines of JSON.
 
 Prints a line for each check and ends with 'N passed, M failed'. Standard library only."""
@@ -98,12 +98,6 @@ def many_connections():
     pairs = [("all are told", told, True)] + [(f"lines of {kind}", MOST_LINES <= counts(lines, kind)[0] < number, True) for kind, number in whole.items()]
     levels = {MORE.fullmatch(plain(line))[2]: line.split()[1] for line in lines if MORE.fullmatch(plain(line))}
     pairs.append(("their levels", levels, {"opened": "info", "ended 0": "info", "ended 2": "warn"}))
-    with Staying(4) as node:
-        for _ in range(50):
-            with node.link() as link:
-                link.ask(say.front())
-            node.line()
-        pairs.append(("of serve --stay each end is on standard output, and standard error has ten", wait_until(lambda: sum(counts(list(node.words), "ended 0")[:2]) == 50), True))
     report("connections that come and go at once", differ(pairs))
 
 
@@ -134,7 +128,7 @@ def objects(lines):
 
 def json_lines():
     """With --log-format json each line is an object with the time, the level, the peer, the event and its values."""
-    with OwnNode("-v", "--log-format", "json", "--report-changes", 1, "--load", "/nonexistent/file") as node:
+    with OwnNode("-v", "--log-format", "json", "--load", "/nonexistent/file") as node:
         with node.link() as link:
             peer = "127.0.0.1:%d" % link.socket.getsockname()[1]
             pairs = [("a push", link.ask(PUSHED), ("done", 2)), ("a conflict", link.ask(OTHER)[:2], ("refused", 23)), ("a prune", link.ask(say.prune(9))[:2], ("refused", 24))]
@@ -146,7 +140,7 @@ def json_lines():
         wait_until(lambda: any('"number":2,' in line for line in list(node.words)))
         lines = objects(list(node.words))
     wanted = [{"level": "warn", "peer": None, "event": "load", "source": "/nonexistent/file"}, {"level": "info", "peer": peer, "event": "opened", "link": "1"},
-              {"level": "info", "peer": peer, "event": "done", "link": "1", "operations": "2"}, {"level": "info", "peer": None, "event": "front", "changes": "1", "horizon": "0", "readable": "1"},
+              {"level": "info", "peer": peer, "event": "done", "link": "1", "operations": "2"},
               {"level": "warn", "peer": peer, "event": "refused", "link": "1", "number": 23, "table": 1, "key": "5", "at": "1"},
               {"level": "warn", "peer": peer, "event": "refused", "link": "1", "number": 24, "table": None, "key": None, "at": None},
               {"level": "info", "peer": peer, "event": "ended", "link": "1", "number": 0}, {"level": "info", "peer": other, "event": "opened", "link": "2"},

@@ -12,7 +12,7 @@ from journeys import status
 from servers import kill, waited
 from vadungsil.postgres import Database, lsn_of
 
-# after how many seconds without a word PostgreSQL ends a connection; after half of it, it asks
+# after how many seconds without a word PostgreSQL ends a connection, where no more are asked for; after half of it, it asks
 TIMEOUT = 4.0
 
 
@@ -33,13 +33,13 @@ STORIES = (Story("kept before it", True, False, "capture"), Story("read and not 
 class Tail:
     """A story over a PostgreSQL of its own."""
 
-    def __init__(self, shop, story, count):
-        self.shop, self.story, self.count, self.limit = shop, story, count, LIMIT + count / 500
+    def __init__(self, shop, story, count, timeout):
+        self.shop, self.story, self.count, self.limit, self.timeout = shop, story, count, LIMIT + count / 500, timeout
         self.where, self.redis = ["--file", shop.file], None
         if story.pauses == "redis":
             port = free_port()
             self.redis, self.where = shop.programs.redis(port), ["--redis", f"redis://127.0.0.1:{port}"]
-        shop.sql(f"alter system set wal_sender_timeout = '{TIMEOUT:.0f}s'")
+        shop.sql(f"alter system set wal_sender_timeout = '{timeout:.0f}s'")
         shop.sql("select pg_reload_conf()")
         shop.sql("create table t(id bigint primary key, a text); create table elsewhere(i int)")
         shop.sql("alter publication shop add table t")
@@ -81,7 +81,7 @@ class Tail:
         large.commit()
         time.sleep(0.1)
         paused.send_signal(signal.SIGSTOP)
-        time.sleep(TIMEOUT * 0.7)
+        time.sleep(self.timeout * 0.7)
         paused.send_signal(signal.SIGCONT)
         waited(lambda: child.poll() is not None or self.slot() > self.origin() or self.origin() > before, "nothing comes", self.limit)
         is_ahead = self.slot() > self.origin()
@@ -106,17 +106,14 @@ class Tail:
 
     def cut(self):
         """The last transaction of the file cut off is told, and nothing else is."""
-        data = self.shop.file.read_bytes()
-        last = max(place[2] // 2 ** 20 for place in places_of(data) if (place[2] + 1) % 2 ** 20 == 0)
-        end = min(place[0] for place in places_of(data) if place[2] // 2 ** 20 == last)
-        self.shop.file.write_bytes(data[:end])
-        self.shop.captured(wanted=3, said="lost its tail", limit=self.limit)
-        self.shop.file.write_bytes(data)
+        places = places_of(self.shop.file.read_bytes())
+        last = max(place[2] // 2 ** 20 for place in places if (place[2] + 1) % 2 ** 20 == 0)
+        self.shop.lost(min(place[0] for place in places if place[2] // 2 ** 20 == last), self.limit)
 
 
-def played(shop, story, count, rounds=3):
+def played(shop, story, count, rounds=3, timeout=TIMEOUT):
     """Rounds until psycopg2 confirmed by itself in one of them: how many these were, and in how many it did."""
-    it, ahead = Tail(shop, story, count), 0
+    it, ahead = Tail(shop, story, count, timeout), 0
     shop.captured(*it.where)
     at = 0
     for at in range(1, rounds + 1):

@@ -1,5 +1,5 @@
 #!/usr/bin/env python3
-"""Thousands of links at once to one `bin/hkrep serve --stay`: links that ask, wait, are cut off, trickle or never read, beside one that feeds. Each
+"""Thousands of links at once to one `bin/hkrep node`: links that ask, wait, are cut off, trickle or never read, beside one that feeds. Each
 reply is what tests/lib/reference.py makes of the same items.
 
     tests/checks/many.py [LINKS [SEED]]      LINKS: 5,000 where left out; 10,000 by hand
@@ -21,7 +21,7 @@ import messages as say
 import reference
 from checks import differ, ended, guarded, is_built, report, skip
 from crowd import Crowd, Pause, Say, raised_files
-from staying import BATCH, LIMIT, PROGRAM, Staying
+from staying import LIMIT, PROGRAM, Staying
 
 LINKS = 5_000
 # files beside those of the links: of this script, and of the node
@@ -262,12 +262,9 @@ class Crowded:
         return self.ends(len(members))
 
     def end(self):
-        """Some close and some break off, in batches so small that no line of an end is dropped; gives how all ended, each number with how often."""
+        """Some close and some break off; gives how all ended, each number with how often."""
         left = list(self.crowd.members.values())
-        told = self.ends(self.links + 2 - len(left))
-        for first in range(0, len(left), BATCH):
-            told += self.end_some(left[first:first + BATCH])
-        return told
+        return self.ends(self.links + 2 - len(left)) + self.end_some(left)
 
 
 def role_of(number):
@@ -283,7 +280,7 @@ def times(name, took, alone):
 def crowds(links, seed):
     """So many links at once, which all do something else beside one another."""
     first = -(-links // PORTS)
-    with Staying(first + 1, "-q", "--messages", "2", reading=first, feeding=1) as node:
+    with Staying(first + 1, reading=first, feeding=1) as node:
         it = Crowded(node, links, seed)
         alone, files = it.begin(), files_of(node)
         each = it.open()

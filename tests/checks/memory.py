@@ -255,13 +255,14 @@ def refused_commands():
 # ---------------------------------------------------------------- nodes
 
 class Node:
-    """A node under the library, which is ended at the latest when the block is left. Its requests for memory count from when the
+    """A node of `serve`, or of `node`, under the library, which is ended at the latest when the block is left. Its requests for memory count from when the
     page is armed on."""
 
-    def __init__(self, links=2, *options, streams=1, **how):
+    def __init__(self, links=2, *options, streams=1, command="serve", **how):
+        self.command = command
         for _ in range(5):
             self.start(links, streams, options, Page(**{"waits": 1, **how}))
-            if self.said != "refused 93\n":
+            if self.said not in {"serve": ("refused 93\n",), "node": ("",)}[command]:
                 return
             # somebody took the port in between
             self.__exit__()
@@ -269,7 +270,7 @@ class Node:
 
     def start(self, links, streams, options, page):
         self.page, self.port = page, free_port()
-        words = ["serve", "--log", "7", "--streams", str(streams), "--port", str(self.port), "--links", str(links), *options]
+        words = [self.command, "--log", "7", "--streams", str(streams), "--port", str(self.port), "--links", str(links), *options]
         self.child = subprocess.Popen([PROGRAM, *words], stdout=subprocess.PIPE, stderr=subprocess.DEVNULL, text=True, env=page.environment())
         lines = queue.Queue()
         threading.Thread(target=lambda: lines.put(self.child.stdout.readline()), daemon=True).start()
@@ -455,7 +456,7 @@ def turns(node):
 
 def disturbed_turns(left):
     """The kinds of what is told where one request for memory is refused, from the accept on, and what is wrong with them, or with the next link's."""
-    with Node(3, "--stay", "--workers", "1", "--messages", "2") as node, node.link() as first:
+    with Node(3, "--no-guard", "--workers", "1", command="node") as node, node.link() as first:
         # it listens before all of it is there
         first.ask(say.front())
         node.page.arm(left)
@@ -474,7 +475,7 @@ TURN_REFUSALS = ("ended", ("refused", 90), ("refused", 42), ("refused", 26), "la
 
 def refused_turns():
     """Each request for memory of a long-running node refused in turn, from a link's accept to its last reply: the link goes on or ends, and the next one is served."""
-    with Node(3, "--stay", "--workers", "1", "--messages", "2") as node, node.link() as first:
+    with Node(3, "--no-guard", "--workers", "1", command="node") as node, node.link() as first:
         first.ask(say.front())
         node.page.arm(0)
         undisturbed, count = turns(node), node.page.get("count")

@@ -101,9 +101,9 @@ def numbers():
     deb, _ = run(["dpkg-deb", "-f", DEB, "Version"])
     pc = re.search(r"^Version: (.*)$", (ROOT / "lib" / "hekaton.pc").read_text(encoding="utf-8"), re.M)[1]
     found += [("hkrep --version", told(ROOT / "bin" / "hkrep", "--version").split(" ")[1], VERSION), ("the Debian package", deb.strip(), VERSION), ("hekaton.pc", pc, VERSION)]
-    replaced = runpy.run_path(str(ROOT / "tests" / "tools" / "quick"))["WORDS"]
+    replaced = runpy.run_path(str(ROOT / "tests" / "tools" / "plain_build.py"))["WORDS"]
     found += [("places", len(said.splitlines()), len(places))]
-    found += [("where make quick says unproved", (ROOT / places[1][0]).read_text(encoding="utf-8").count(old), 1) for old in replaced]
+    found += [(f"where {name} without a proof says so", (ROOT / name).read_text(encoding="utf-8").count(old), 1) for name, words in replaced.items() for old in words]
     other = WORK / "numbered"
     for name in [*(it[0] for it in places), "deploy/version"]:
         (other / name).parent.mkdir(parents=True, exist_ok=True)
@@ -198,6 +198,7 @@ def unit(root):
 
     settings = command(UNITS[0], "EnvironmentFile")
     start = f". {settings}; {command(UNITS[0], 'ExecStart')} > /dev/null & node=$!\nexport MAINPID=$node\n{command(UNITS[0], 'ExecStartPost')} > /dev/null\n"
+    kept_down = re.search(r"^RestartPreventExitStatus=(.*)$", of_units[UNITS[0]], re.M)
     (BARE / "hkrep").mkdir()
     lines = f"{start}hkrep feed --port {port} < /{SHARED}/examples/first.bin; hkrep ask --port {port} get 1 5\n" \
             f"printf '\\0\\0\\0\\2\\2\\60' | hkrep push --messages 2 --port {port}; {command(UNITS[1], 'ExecStart')} && kill -9 $node; wait $node\n" \
@@ -208,7 +209,8 @@ def unit(root):
     # the last is Streams, a request of version 2, which the calls of docs/PYTHON.md need
     told = "streams log 7 horizon 0 readable 1 operations 2\nstream 1 prefix 1 extra 0 closed 1 waiting 0\n"
     report("the units' command lines start a node that answers, also messages of version 2, and save it; then it comes back with what it had",
-           differ([("prints", said, f"done 2\n9 41\n{told}9 41\nfront horizon 0 readable 1\n"), ("saved", saved, [f"{port}.save", f"{port}.save.1"])]))
+           differ([("prints", said, f"done 2\n9 41\n{told}9 41\nfront horizon 0 readable 1\n"), ("saved", saved, [f"{port}.save", f"{port}.save.1"]),
+                   ("what isn't begun again", kept_down and kept_down[1], "1"), ("both files", re.findall(r"--load \S+%i\.save(\S*)", of_units[UNITS[0]]), ["", ".1"])]))
 
 
 def is_due():

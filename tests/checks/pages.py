@@ -36,12 +36,15 @@ UNTYPED = {
     "rt must-fail": "a part of rt ci",
     "rt plant": "runs for hours, by hand",
     "make quick": "minutes of the compiler; a program that is proved is what the gate has",
+    "make quick-lib": "minutes of the compiler; tests/checks/unproved.py looks at what goes into it",
     "tests/tools/quick": "builds a program for minutes, and times it beside the proved one: by hand",
     "tests/tools/dear": "proves a crate from nothing: minutes, by hand",
     "make lib": "proves anew what tests/tools/library --gate took from the gate",
     "make test": "is the gate",
     "make": "proves what the gate has proved",
     "make crate": "proves a crate: a minute and more",
+    "make fn": "proves a function: seconds to minutes, by hand",
+    "make edits": "proves what each edit of a crate changes: minutes, by hand",
     "make lint": "the gate runs its recipe as a check of its own",
     "make hooks": "puts a hook into the clone",
     "STORY=WORDS tests/checks/postgres.py": "plays some of the stories that the gate plays whole",
@@ -55,7 +58,7 @@ UNTYPED = {
 }
 
 # What stands in a command of a page for something of the reader's own; a port is a free one.
-STAND_INS = {"FILE": "/dev/shm/hkrep.save", "FRAMES": "examples/first.bin", "NAME": "half_fed", "TIME": "1"}
+STAND_INS = {"FILE": "/dev/shm/hkrep.save", "FRAMES": "examples/first.bin", "orders.log": "examples/first.bin", "NAME": "half_fed", "TIME": "1"}
 PORTS = r"\b(742\d|(?<=--port )P|(?<=--port )Q)\b"
 
 
@@ -246,6 +249,9 @@ def helped():
         for node in nodes:
             node.kill()
             node.communicate()
+    for word, wanted in (("--help", ("get-server FOLDER", 0)), ("--what", ("usage: get-server FOLDER", 64)), ("", ("usage: get-server FOLDER", 64))):
+        said, status = bash(f"connectors/nats/get-server {word} 2>&1")
+        problems += differ([(f"get-server {word}", (wanted[0] in said, status), (True, wanted[1]))])
     report("each command's help has an example, and it runs", problems or ([] if len(known) >= 10 else [f"only {known}"]))
 
 
@@ -548,7 +554,7 @@ def words_shown():
 
 # what a user reads, and how many words that may be
 FOR_USERS = ("README.md", *(f"docs/{it}.md" for it in ("GETTING_STARTED", "PYTHON", "OPERATING", "CONNECTORS", "SECURITY", "SCALING", "EMBEDDING", "POSTGRESQL", "WHY_THIS")))
-MOST_WORDS = 15_600
+MOST_WORDS = 15_500
 
 
 def short_enough():

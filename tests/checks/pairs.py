@@ -1,7 +1,7 @@
 #!/usr/bin/env python3
-"""Nothing is written twice: no ten lines of code stand in two places, and no ten lines of specs and proofs.
+"""Nothing is written twice: no ten lines of code stand in two places, and no ten lines of specs and proofs; and few places share six.
 
-    tests/checks/pairs.py           a check for each kind, and at the end 'N passed, M failed'
+    tests/checks/pairs.py           two checks for each kind, and at the end 'N passed, M failed'
     tests/checks/pairs.py LEAST     prints each pair of places that share so many lines, also those that are known: by hand
 
 Lines count without their blanks; empty ones, comments, lone brackets and imports don't count. A pair that stands is in KNOWN with its reason: one
@@ -15,6 +15,8 @@ from checks import ended, report
 
 ROOT = pathlib.Path(__file__).resolve().parents[2]
 LEAST = 10
+# so many lines are shared by so many pairs of places at most, by kind
+SHORT, MOST = 6, {"code": 69, "specs and proofs": 18}
 KINDS = {"code": ("*/src/**/*.rt",), "specs and proofs": ("*/specs/**/*.antt", "*/proofs/**/*.antt")}
 SKIPPED = re.compile(r"(//|--|use |pub use |ghost use |pub mod |mod |import |[\W_]*$)")
 
@@ -26,9 +28,6 @@ KNOWN = {
         ("hk_state/src/learn.rt", "hk_state/src/learn.rt"): "the same of what is learnt",
     },
     "specs and proofs": {
-        ("hk_fragment_bytes/proofs/StreamRead.antt", "hk_marks/proofs/Prefixes.antt"): "the same of prefixes",
-        ("hk_index/specs/TagOrder.antt", "hk_model/proofs/Replica/Maps.antt"): "an order of keys that stands apart in each crate, as a proof of another crate can't be cited",
-        ("hk_model/proofs/History/Commits.antt", "hk_primary/proofs/Verdicts.antt"): "the same of commits",
         ("hk_state/proofs/replica/ReplicaState/absorb_entry/Answers.antt", "hk_state/proofs/replica/ReplicaState/absorb_entry/Answers.antt"):
             "one answer for each of two ways out of a function",
     },
@@ -86,6 +85,8 @@ def check(kind, patterns):
     problems = [place for names, places in found.items() if names not in known for place in places]
     gone = [f"{' ~ '.join(names)} is gone: take it out of KNOWN" for names in known if names not in found]
     report(f"no {LEAST} lines of {kind} stand in two places, but in {len(known)} pairs of files that are known", problems + gone)
+    count = len(list(pairs(patterns, SHORT)))
+    report(f"at most {MOST[kind]} pairs of places in {kind} share {SHORT} lines", [f"{count} do"] if count > MOST[kind] else [])
 
 
 def main(words):

@@ -47,11 +47,12 @@ def shell_of(blocks):
 
 
 def readme():
-    """The node of README.md, what is typed to it, and the listing for Python behind it."""
+    """The log that README.md writes, its node, what is typed to it, and what Python reads from it."""
     lines = shown("README.md", "set in", r"export PATH=|hkrep (node --log|feed|ask|status) ")
-    (listing,) = shown("README.md", "python")
-    wanted = [f"{it.printed}\n" if it.printed else None for it in lines] + ["".join(f"{text}\n" for text in re.findall(r"# prints (.*)", listing.text))]
-    return shell_of([it.text for it in lines]) + python_of([listing.text]) + "kill $(jobs -p)\n", wanted
+    writes, reads = shown("README.md", "python")
+    prints = ["".join(f"{text}\n" for text in re.findall(r"# prints (.*)", it.text)) for it in (writes, reads)]
+    wanted = [prints[0], *(f"{it.printed}\n" if it.printed else None for it in lines), prints[1]]
+    return python_of([writes.text]) + shell_of([it.text for it in lines]) + python_of([reads.text]) + "kill $(jobs -p)\n", wanted
 
 
 def getting_started():
@@ -69,7 +70,7 @@ def python_page():
 
 
 # each page with how many pieces it has at least
-PASTED = {"README.md": (readme, 5), "docs/GETTING_STARTED.md": (getting_started, 12), "docs/PYTHON.md": (python_page, 9)}
+PASTED = {"README.md": (readme, 6), "docs/GETTING_STARTED.md": (getting_started, 12), "docs/PYTHON.md": (python_page, 10)}
 
 
 def is_free(port):

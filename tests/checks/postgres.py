@@ -3,8 +3,8 @@
 
 Each check starts a PostgreSQL of its own in a folder, over a socket there, and captures its tables. Wanted rows are
 PostgreSQL's own: of a snapshot where its transactions are a beginning of the log, or of the end. The kills (twenty, or
-as many as are asked for) are kill -9 of the capture, PostgreSQL, Redis or the node, at places of the log that a seed
-draws; after each, a snapshot's moment is compared. Needs bin/hkrep, postgresql, python3-psycopg2, redis-server and
+as many as are asked for) are kill -9 of the capture, PostgreSQL, Redis, the follower or the node, at places of the log
+that a seed draws; after each, a snapshot's moment is compared. Needs bin/hkrep, postgresql, python3-psycopg2, redis-server and
 python3-redis; where one isn't installed, that is said as skipped. It ends only what it started."""
 import contextlib
 import errno
@@ -47,15 +47,16 @@ if psycopg2 is not None and redis is not None:
     import capturing
     import catalog
     import configuration
+    import hindered
     import keeping
     import log
-    import log_in_file
     import lost_tails
     import reference
     import shapes
     import source
     import spilling
     import vadungsil
+    import vadungsil.item_file
     import vadungsil.postgres as va
     from captured_shop import (LIMIT, LOG, TABLES, Kills, Shop, holds, places_of)
     from configuration import Broken
@@ -115,6 +116,24 @@ def spilled_transactions():
                               ("short rows", [place for place, body in wanted.items() if len(body) < 99
                                                                                    and seen[7].get(place) != body],
                                [])])
+
+
+def full_spills():
+    """A transaction whose file has no room is told with TMPDIR, and while it goes there and comes back PostgreSQL is told that the capture lives."""
+    problems, lives = [], []
+    it = spilling.Spilling(most=5000, alive=lambda: lives.append(len(it.rows)))
+    for key in range(10_001):
+        it.put((1, key), (b"x" * 100,))
+    problems += differ([("said while 5,001 rows were spilled", len(lives), 5), ("rows that are read", sum(1 for _ in it.ordered()), 10_001),
+                        ("said by then", len(lives), 5 + 5 + 10)])
+    it.base.execute("pragma max_page_count = 500")
+    try:
+        for key in range(20_000, 40_000):
+            it.put((1, key), (b"x" * 100,))
+        problems.append("a full disk is not told")
+    except OSError as error:
+        problems += differ([("what is told", str(error), "the temporary file of a large transaction (TMPDIR): database or disk is full")])
+    return problems
 
 
 def rows_of(frames):
@@ -179,39 +198,42 @@ def texts_of_one_hash():
 
 
 def full_disks():
-    """A disk that is full is waited for, and nothing of a part of a block is left."""
+    """A disk that is full is waited for, and nothing of a part of a block is left, nor of a line of its checksums."""
     frame, write, truncated = vadungsil.encode(vadungsil.Entry.of(LOG, 1, 1, 5, rows=[(1, 1, 0, b"x" * 99)])), os.write, []
     with tempfile.TemporaryDirectory() as folder:
         path = pathlib.Path(folder) / "a.log"
-        store, tries = LogInFile(str(path), LOG), []
+        store, tries, lines = LogInFile(str(path), LOG), [], []
 
         def full(file, data):
-            """Takes a part, then nothing, and all once it was tried three times; and each line of checksums."""
-            if os.fstat(file).st_ino != path.stat().st_ino:
-                return write(file, data)
-            tries.append(len(data))
-            if len(tries) in (2, 3, 4):
-                truncated.append(path.stat().st_size)
+            """Of the log it takes a part, then nothing, and all once it was tried three times; of the checksums a part, then nothing, then all."""
+            is_log = os.fstat(file).st_ino == path.stat().st_ino
+            (tries if is_log else lines).append(len(data))
+            if len(tries) in (2, 3, 4) or (not is_log and len(lines) == 2):
+                truncated.append((path.stat().st_size, path.with_suffix(".log.sums").stat().st_size))
                 raise OSError(errno.ENOSPC, "No space left on device")
-            return write(file, data[:10] if len(tries) == 1 else data)
+            return write(file, data[:10] if len(tries) == 1 or (not is_log and len(lines) == 1) else data)
         kept = keeping.KeptByEngine(store, 60)
         kept.publisher.patience.say = lambda text: said.append(text)
         said = []
-        log_in_file.os.write = full
+        vadungsil.item_file.os.write = full
         try:
             kept.put(frame)
             kept.flush()
         finally:
-            log_in_file.os.write = write
-        return differ([("the file", path.read_bytes(), frame), ("tries", len(tries), 5), ("what stood before each", truncated, [10, 0, 0]),
-                       ("what is said", [it for it in said if "No space" in it], ["OSError: [Errno 28] No space left on device; trying again"])])
+            vadungsil.item_file.os.write = write
+        again = LogInFile(str(path), LOG)
+        return differ([("the file", path.read_bytes(), frame), ("tries", (len(tries), len(lines)), (6, 3)),
+                       ("what stood before each", truncated, [(10, 0), (0, 0), (0, 0), (len(frame), 10)]),
+                       ("what its checksums keep", (again.see().number, again.rest), (1, 0)),
+                       ("what is said", said, ["OSError: [Errno 28] No space left on device; trying again"])])
 
 
-def told_stops():
-    """docs/POSTGRESQL.md has each story that stops a capture, and no other."""
+def told_stories():
+    """docs/POSTGRESQL.md has each story of an altered table, with what comes of it, and no other."""
     page = (ROOT / "docs" / "POSTGRESQL.md").read_text()
-    rows = [line for line in page.split("| What is done |")[1].split("\n\n")[0].splitlines() if line.startswith("| ") and "---" not in line]
-    return differ([("the rows of the page", rows, [it.row() for it in altered_tables.STORIES if "stops" in it.row()])])
+    head, _, *rows = page[page.index("| Altered |"):].split("\n\n")[0].splitlines()
+    return differ([("the columns of the page", head, "| Altered | Goes on | Stops if away | Stops |"),
+                   ("the rows of the page", rows, altered_tables.rows())])
 
 
 def collision(shape, first, second):
@@ -267,27 +289,33 @@ def all_changes(shop):
 
 
 KINDS = """create table kinds(k smallint primary key, b bool, f float8, n numeric(12, 2), t text, c char(5), d date,
-z timestamptz, i interval, j jsonb, y bytea, a int[], e inet);
+z timestamptz, i interval, j jsonb, y bytea, a int[], e inet, r float4, m numeric, s float8[]);
 insert into kinds values
 (-1, true, 0.1, 12.50, E'tab\\t nl\\n bs\\\\ q" ü €', 'ab', '2020-02-29', '2020-02-29 12:00:00+02', '1 day 2:03',
 '[1, null]', '\\x00ff', '{1,2}', '10.0.0.1/8'),
 (2, false, 'NaN', 'NaN', '', '', '-infinity', 'infinity', '-1 mon', 'null', '', '{}', '::1/64');
 insert into kinds(k) values (3);
+insert into kinds(k, f, r, m, s) values (4, '-0', '-0', '-0', '{-0,NaN,-Infinity,null,0.5}'),
+(5, 'Infinity', 'Infinity', 'Infinity', '{}'), (6, '-Infinity', '-Infinity', '-Infinity', null),
+(7, '5e-324', '1e-45', '1e-400', '{1e300}'), (8, '-1.7976931348623157e308', '-3.4028235e38', '-1e400', '{-1e-300}'),
+(30, '0', '0', '0.000', '{0}'), (10, '1e15', 'NaN', 'NaN', '{{1},{2}}'), (11, '0.30000000000000004', '0.1', '1e2', '{0.1}');
 alter publication shop add table kinds"""
 
 
 def kinds_of(shop):
-    """The rows of `kinds` as PostgreSQL prints them; its blanks behind a char(5) stay in a body, and NaN is a text
-    there."""
+    """The rows of `kinds` as PostgreSQL prints them; its blanks behind a char(5) stay in a body."""
     shop.sql("set timezone = 'UTC'; set intervalstyle = 'iso_8601'")
     wanted = {}
-    for row in shop.sql("select k, b, f, n::text, t, rpad(c::text, 5), d::text, z::text, i::text, j::text, y::text, "
-                        "a::text, e::text "
-                        "from kinds"):
-        wanted[row[0]] = dict(zip("kbfntcdzijyae", row))
-        if row[2] is not None and row[2] != row[2]:
-            wanted[row[0]]["f"] = "NaN"
+    for row in shop.sql("select k, b, f::text, n::text, t, rpad(c::text, 5), d::text, z::text, i::text, j::text, y::text, "
+                        "a::text, e::text, r::text, m::text, s::text from kinds"):
+        it = dict(zip("kbfntcdzijyaerms", row))
+        wanted[row[0]] = {**it, "f": float_of(it["f"]), "r": float_of(it["r"])}
     return wanted
+
+
+def float_of(text):
+    """A float as a body has it: a number of JSON, and what JSON doesn't carry as the text that PostgreSQL prints."""
+    return text if text in (None, "NaN", "Infinity", "-Infinity", "-0") else float(text)
 
 
 def values_and_moments(shop):
@@ -307,7 +335,7 @@ def values_and_moments(shop):
         before = {row["k"] + 10: {**row, "k": row["k"] + 10} for row in base.rows("kinds", at=first)}
         problems = [f"{name} of {key}: {rows.get(key, {}).get(name)!r}, wanted {value!r}" for rows in (got, before)
                     for key, row in wanted.items() for name, value in row.items()
-                    if rows.get(key, {}).get(name) != value]
+                    if repr(rows.get(key, {}).get(name)) not in (repr(value), repr(value).removesuffix(".0"))]
         problems += differ([
             ("keys", (set(got), set(before)), (set(wanted), set(wanted))),
             ("by lsn", va.moment_of(node, va.place_of(commit.lsn)), last),
@@ -438,9 +466,9 @@ def altered(shop):
     return f"{len(wanted)} stories, each in two ways at least"
 
 
-def tails(shop, story=None, count=20_000, rounds=3):
+def tails(shop, story=None, count=20_000, rounds=3, *timeout):
     """A tail that only looks lost is told by nobody, and one that is lost is."""
-    at, ahead = lost_tails.played(shop, story, count, rounds)
+    at, ahead = lost_tails.played(shop, story, count, rounds, *timeout)
     return f"{story.name}, {at} rounds of {count} rows, in {ahead} of them psycopg2 confirmed by itself"
 
 
@@ -544,6 +572,48 @@ def loads_cut_off(shop):
     return f"{len(load)} entries in the last"
 
 
+def own_of(data, *keys):
+    """The bodies of rows of table 0 by key, each with the number of the entry that put it."""
+    found = {key: [] for key in keys}
+    for begin, end, _ in places_of(data):
+        frame = data[begin:end]
+        for table, key, body in log.lists_of(frame):
+            if table == 0 and key in found and body is not None:
+                found[key].append((log.number_of(frame), bytes(body)))
+    return found
+
+
+def terms(shop):
+    """A log that a capture begins has an identity, which stays, and a term of each start that writes; a log of before has neither, and goes on without."""
+    begun = log.Log.load_begin
+    log.Log.load_begin = lambda it, rows: begun(it, {key: body for key, body in rows.items() if key not in (2, 3)})
+    child = altered_tables.Captured(shop.configuration, shop.file, va.lsn_of(shop.place()))
+    try:
+        child.run()
+    finally:
+        log.Log.load_begin = begun
+    shop.sql("insert into files values ('of before', 1, '')")
+    shop.captured()
+    shop.same()
+    of_before = own_of(shop.file.read_bytes(), 2, 3)
+    shop.sql("select pg_drop_replication_slot('vadungsil_7'); select pg_replication_origin_drop('vadungsil_7')")
+    cut_off(shop, b"")
+    shop.captured()
+    load = own_of(shop.file.read_bytes(), 2, 3)
+    for turn in range(2):
+        shop.sql("insert into files values (%s, 1, '')", f"turn {turn}")
+        shop.captured()
+    shop.same()
+    found = own_of(shop.file.read_bytes(), 2, 3)
+    bits = found[2][0][1][14:30]
+    term = lambda number, at: bytes([1]) + number.to_bytes(8, "big") + found[3][number - 1][1][9:17] + b"\x00\x01" + (at - 1).to_bytes(8, "big")
+    problems = differ([("of before", (child.told, of_before), ((0, ""), {2: [], 3: []})), ("begun with", (load[2], load[3]), (found[2], found[3][:1])),
+                       ("the identity", [body for _, body in found[2]], [b"vadungsil log\x01" + bits + bytes(4) + b"\x02"]),
+                       ("the terms", [body for _, body in found[3]], [term(number, at) for number, (at, _) in enumerate(found[3], 1)]), ("how many", len(found[3]), 3),
+                       ("drawn", len({body[9:17] for _, body in found[3]}), 3)])
+    holds(not problems, "; ".join(problems))
+
+
 def over_nats(shop):
     """A capture into NATS, killed in the middle, and a node behind it; with one server, and no replicas."""
     port = free_port()
@@ -633,13 +703,13 @@ def demonstrated(shop):
     return said.splitlines()[-2]
 
 
-def kills(shop, count=KILLS, seed=SEED):
-    """kill -9 of the capture, PostgreSQL, Redis and the node at drawn places, beside four writers."""
-    it = Kills(shop, seed)
-    waited(lambda: it.alive() and it.taken() >= 1, "the load doesn't come to the node", LIMIT)
+def kills(shop, count=KILLS, seed=SEED, is_file=False):
+    """kill -9 of the capture, PostgreSQL, Redis, the follower and the node at drawn places, beside four writers."""
+    it = Kills(shop, seed, is_file)
+    it.come(lambda: it.taken() >= 1, "the load")
     for writer in it.writers:
         writer.start()
-    victims = [("capture", "postgres", "redis", "node")[at % 4] for at in range(count)]
+    victims = [it.victims[at % len(it.victims)] for at in range(count)]
     it.rand.shuffle(victims)
     try:
         for victim in victims:
@@ -651,7 +721,12 @@ def kills(shop, count=KILLS, seed=SEED):
         writer.join(LIMIT)
     it.compare()
     return (f"seed {seed}: {count} kills, {it.compared} moments compared, {it.skipped} snapshots were none, "
-            f"{len(it.moments.xids)} transactions")
+            f"{len(it.moments.xids)} transactions, {it.longest:.0f} s waited at most")
+
+
+def kills_of_a_file(shop, count=KILLS, seed=SEED):
+    """The same without Redis: the log is a file, and the capture its writer."""
+    return kills(shop, count, seed, True)
 
 
 # ---------------------------------------------------------------- all of it
@@ -675,10 +750,11 @@ def play(check, words=()):
     return f"{check.__name__.replace('_', ' ')} ({time.monotonic() - begin:.1f} s)", problems, told
 
 
-ALONE = (keys_of_a_table, spilled_transactions, times_and_tags, bad_files, texts_of_one_hash, full_disks, told_stops)
-SERVED = (kills, altered, tails, halves, losses, another_table, demonstrated, all_changes, values_and_moments, refused_tables,
-          changes_that_stop,
-          loads_cut_off, idle_places, over_nats, page)
+ALONE = (keys_of_a_table, spilled_transactions, full_spills, times_and_tags, bad_files, texts_of_one_hash, full_disks, told_stories)
+SERVED = (kills, kills_of_a_file, altered, tails, halves, losses, another_table, demonstrated, all_changes, values_and_moments, refused_tables,
+          changes_that_stop, loads_cut_off, terms, idle_places, over_nats, page)
+if psycopg2 is not None and redis is not None:
+    SERVED += hindered.CHECKS
 
 
 def lacking():
@@ -689,12 +765,13 @@ def lacking():
 
 
 def checks_of(chosen, numbers):
-    """The checks that were chosen, with their words: numbers are those of the kills, or how many rows and rounds the tails have."""
+    """The checks that were chosen, with their words: numbers are those of the kills, or how many rows and rounds the tails have,
+    and after how many seconds PostgreSQL ends a silent connection."""
     for it in SERVED:
         if it.__name__ in chosen and it is tails:
             yield from ((it, (story, *numbers)) for story in lost_tails.STORIES if STORY in story.name)
         elif it.__name__ in chosen:
-            yield it, numbers if it is kills else ()
+            yield it, numbers if it in (kills, kills_of_a_file) else ()
 
 
 def main(words):

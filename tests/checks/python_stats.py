@@ -112,14 +112,14 @@ def of_an_earlier_release():
 def of_a_node():
     """A node of the program reports what it was given, and the connections over which that came."""
     log = va.LogWriter(7, 1)
-    with Staying(4, "--messages", "2") as node, va.Node(node.port) as link:
+    with Staying(4) as node, va.Node(node.port) as link:
         new, none = link.stats(), link.tables()
         link.items([log.commit(puts=[(1, 5, 9, b"ABC"), (9, 2**64 - 1, 1, b"")]), log.commit(removes=[(1, 5)]), *log.marks()])
         for at in (3, 4):
             refusal_of(lambda: link.get(1, 5, at=at))
         with link.hold(1):
             held, tables = link.stats(), link.tables()
-        wanted = {"rows": 2, "ends": 1, "body_bytes": 3, "pins": 1, "guarded": False, "failed": False, "version": va.__version__, "open": {0: 2}, "opened": {0: 2}, "most_open": {0: 2}}
+        wanted = {"rows": 2, "ends": 1, "body_bytes": 3, "pins": 1, "guarded": True, "failed": False, "version": va.__version__, "open": {0: 2}, "opened": {0: 2}, "most_open": {0: 2}}
         problems = differ([("of a new node", (new.rows, new.ends, new.pins, none), (0, 0, 0, [])), ("tables", tables, [1, 9]), ("operations", held.operations - new.operations, 2),
                            *((name, getattr(held, name), value) for name, value in wanted.items()), ("refusals", held.refusals.get(26), 2), ("questions", held.requests.get(20), 2),
                            ("of this run", (held.seconds < LIMIT, held.memory > 0, held.bytes_read > 0, held.bytes_written > 0), (True,) * 4), ("no other", held.other, {})])

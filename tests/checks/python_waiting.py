@@ -516,9 +516,9 @@ class Fed:
 def over_nodes():
     """`wait` and `changes` of nodes of the program, which are fed in random orders and pruned, one of them over the port of those who only read."""
     problems = []
-    for seed, streams, words in ((41, 1, ()), (42, 2, ("--guard",))):
+    for seed, streams, words in ((41, 1, ("--no-guard",)), (42, 2, ())):
         primary = random_log(seed, streams)
-        with Staying(8, *LATER, *words, streams=streams, reading=4) as served, va.Node(served.read_port, limit=LIMIT) as node, node.changes(0) as changes:
+        with Staying(8, *words, streams=streams, reading=4) as served, va.Node(served.read_port, limit=LIMIT) as node, node.changes(0) as changes:
             waiting = ThreadPoolExecutor(1).submit(node.wait, LAST, LIMIT)
             thread = feeding(Fed(served.port), primary.items, seed, lambda: changes.time)
             problems += differ([(f"seed {seed}", all_of(changes), changes_of(primary)), (f"seed {seed}: the wait", waiting.result(LIMIT).readable, LAST)])
@@ -536,16 +536,16 @@ async def awaited(port, since):
 
 
 def over_other_nodes():
-    """A node that doesn't stay replies at once, and is asked again; one without version 2 is told; of two nodes one is killed."""
+    """A node of `serve` replies at once, and is asked again; one without version 2 is told; of two nodes one is killed."""
     problems = []
     with Served(8, words=LATER) as served, va.Node(served.port, limit=LIMIT) as node:
         timer = after(0.3, lambda: Fed(served.port).take([mark(5)]))
-        problems += differ([("without --stay", node.wait(5, LIMIT), va.Front(0, 5)), ("not yet", isinstance(raised(lambda: node.wait(6, 0.1), va.TimeLimit), va.TimeLimit), True)])
+        problems += differ([("of serve", node.wait(5, LIMIT), va.Front(0, 5)), ("not yet", isinstance(raised(lambda: node.wait(6, 0.1), va.TimeLimit), va.TimeLimit), True)])
         timer.join()
     with Served(8) as served, va.Node(served.port, limit=LIMIT) as node:
         problems += differ([("version 1", [refusal_of(lambda: node.wait(5)), refusal_of(lambda: next(node.changes(0)))], [3, 3])])
     primary = random_log(43, 1)
-    with Staying(8, *LATER) as one, Staying(8, *LATER) as two, va.Nodes([one.port, two.port], limit=LIMIT) as nodes, nodes.changes(0) as changes:
+    with Staying(8) as one, Staying(8) as two, va.Nodes([one.port, two.port], limit=LIMIT) as nodes, nodes.changes(0) as changes:
         threads = [feeding(Fed(two.port), primary.items, 43)]
         Fed(one.port).take(primary.items[:20])
         got = [plain(next(changes)) for _ in range(10)]

@@ -243,7 +243,7 @@ def woken_after(left, behind):
     """A change is refused this request for memory, counted from then on. Where it waits therefore (42), that change comes behind it, and an Await of its time has to be
     answered; gives what the change was told, and what is wrong."""
     request, kind = BEHIND_WAITING[behind]
-    with Node(4, "--stay", "--workers", "1", "--messages", "2") as node, node.link() as feeder, node.link() as waiting:
+    with Node(4, "--no-guard", "--workers", "1", command="node") as node, node.link() as feeder, node.link() as waiting:
         assert feeder.ask(say.front()) == ("front", 0, 0)
         waiting.send(say.wait(3, 600_000))
         # whatever the first one asks for by a worker of the waiting link is behind it

@@ -19,6 +19,7 @@ sys.path.append(str(pathlib.Path(__file__).resolve().parents[1] / "lib"))
 import messages as say
 import vadungsil
 from checks import differ, ended, free_port, guarded, is_built, report
+from damaged import damaged
 from saved_file import HEAD, frames_of, summed, what_is_wrong
 from shown import of
 from staying import PROGRAM, OwnNode, said
@@ -27,7 +28,7 @@ FOLDER = pathlib.Path(tempfile.mkdtemp(prefix="saved"))
 LINE = re.compile(r"\d{4}-\d\d-\d\dT\d\d:\d\d:\d\d\.\d{3}Z (\w+) - load (\S+): (.*)\n?")
 ENTRIES, KEYS, LIMIT = 300, 50, 60
 # how many flips go to the program, how many to the client, and how many to `--load`; beside them a fifth of cuts, of zeroed and of doubled blocks
-FLIPS, STARTS, BLOCK = 500, 12, 512
+FLIPS, STARTS = 500, 12
 DAMAGED = "the file is corrupt: load another, as FILE.1 of 'hkrep save --out FILE', or save a node anew"
 UNSUMMED = "so corrupt bytes may not show; 'hkrep save' writes one\n"
 NO_FILE = ("stopped: a file of --load is there, and none is whole; see the lines above. Give another by --load, put it elsewhere, or begin without it by "
@@ -89,22 +90,19 @@ def a_file():
     return whole
 
 
-def damaged(good, count, chance):
-    """So many files with one bit flipped, and a fifth as many that are cut, have a zeroed block, and have a doubled one; none is as it was."""
-    for _ in range(count):
-        data = bytearray(good)
-        data[chance.randrange(len(data))] ^= 1 << chance.randrange(8)
-        yield "flip", bytes(data)
-    for _ in range(count // 5):
-        yield "cut", good[:chance.randrange(1, len(good))]
-        at, size = chance.randrange(len(good)), chance.randrange(1, BLOCK)
-        yield "zeroed", good[:at] + bytes(len(good[at:at + size])) + good[at + size:]
-        yield "doubled", good[:at + size] + good[at:]
-
-
 def is_other(good, data):
     """Whether a file may be refused: it is another, and not cut exactly before its checksum, which is a file of before that was whole."""
     return data not in (good, good[:-40])
+
+
+def both_damaged(count, chance, tried):
+    """The damaged forms of a file of one fragment and of one in chunks, each with its kind; how many of a kind there were is counted in `tried`."""
+    for name in ("good", "chunks"):
+        good = (FOLDER / name).read_bytes()
+        for kind, data in damaged(good, count // 2, chance):
+            if is_other(good, data):
+                tried[kind] = tried.get(kind, 0) + 1
+                yield name, kind, data
 
 
 def flips(count, seed):
@@ -112,15 +110,10 @@ def flips(count, seed):
     chance, pairs, silent, tried = random.Random(seed), [], [], {}
     with OwnNode("--links", "200") as node:
         nothing = facts_of(node)
-        for name in ("good", "chunks"):
-            good = (FOLDER / name).read_bytes()
-            for kind, data in damaged(good, count // 2, chance):
-                if not is_other(good, data):
-                    continue
-                tried[kind] = tried.get(kind, 0) + 1
-                status, out, errors = run("load", "--port", node.port, data=data)
-                if status != 1 or not out.splitlines()[-1:] or not out.splitlines()[-1].startswith(b"refused ") or "refused " not in errors:
-                    silent.append((name, kind, status, out, errors[:100]))
+        for name, kind, data in both_damaged(count, chance, tried):
+            status, out, errors = run("load", "--port", node.port, data=data)
+            if status != 1 or not out.splitlines()[-1:] or not out.splitlines()[-1].startswith(b"refused ") or "refused " not in errors:
+                silent.append((name, kind, status, out, errors[:100]))
         pairs += [("silent", silent, []), ("what the node has", facts_of(node) == nothing, True)]
         pairs += [("then a good one", run("load", "--port", node.port, data=(FOLDER / "good").read_bytes())[0], 0)]
     report("corrupt files are refused by load", differ(pairs), f"{tried}, {len(silent)} silent")
@@ -131,19 +124,14 @@ def flips_in_the_client(count, seed):
     chance, silent, tried = random.Random(seed), [], {}
     with OwnNode("--links", "200") as node, vadungsil.Node(node.port) as client:
         nothing = facts_of(node)
-        for name in ("good", "chunks"):
-            good = (FOLDER / name).read_bytes()
-            for kind, data in damaged(good, count // 2, chance):
-                if not is_other(good, data):
-                    continue
-                tried[kind] = tried.get(kind, 0) + 1
-                file = FOLDER / "bad"
-                file.write_bytes(data)
-                try:
-                    silent.append((name, kind, client.load(file)))
-                except vadungsil.Refused as refused:
-                    if not refused.place:
-                        silent.append((name, kind, str(refused)))
+        for name, kind, data in both_damaged(count, chance, tried):
+            file = FOLDER / "bad"
+            file.write_bytes(data)
+            try:
+                silent.append((name, kind, client.load(file)))
+            except vadungsil.Refused as refused:
+                if not refused.place:
+                    silent.append((name, kind, str(refused)))
         kept = facts_of(node) == nothing
         told = [client.load(FOLDER / name).is_checked for name in ("good", "chunks")]
         with warnings.catch_warnings(record=True) as warned:

@@ -96,7 +96,7 @@ def version():
 
 def of_what_is_held():
     """Rows, ends, bytes, operations, pins and tables, as items come, a pin is made and released, and all before a time is pruned."""
-    with Staying(4, "--messages", "2") as node, Counting(node.port) as link:
+    with Staying(4, "--no-guard") as node, Counting(node.port) as link:
         pairs = [("tables of a new node", link.tables(), [])]
         first = link.stats()
         pairs += [(f"metric {name} of a new node", first[name, 0], 0) for name in (ROWS, ENDS, BODY_BYTES, GUARDED, FAILED, PINS)]
@@ -118,7 +118,7 @@ def of_what_is_held():
 
 def of_connections():
     """Bytes, requests, refusals and connections are those that were; the memory, the budget and the version too."""
-    with Staying(4, "--messages", "2", "--link-bytes", str(BUDGET), reading=2, feeding=3) as node:
+    with Staying(4, "--link-bytes", str(BUDGET), reading=2, feeding=3) as node:
         with Counting(node.port) as link:
             link.ask(say.items(E1, say.mark(1, 1, 1)))
             link.ask(say.front())
@@ -151,7 +151,7 @@ def of_connections():
 
 def of_reserved_bytes():
     """What a connection reserves is told, and comes back at its end."""
-    with Staying(4, "--messages", "2", "--link-bytes", str(BUDGET)) as node, Counting(node.port) as link:
+    with Staying(4, "--link-bytes", str(BUDGET)) as node, Counting(node.port) as link:
         link.ask(say.items(E1, E2, say.mark(1, 2, 2)))
         with Counting(node.port) as other:
             other.ask(say.whole(0, 1))
@@ -165,18 +165,18 @@ def of_reserved_bytes():
 
 def of_a_failed_node():
     """A failed node answers both, and a guarded one says that it is."""
-    with Staying(4, "--messages", "2") as node, Counting(node.port) as link:
+    with Staying(4, "--no-guard") as node, Counting(node.port) as link:
         link.ask(say.items(E1, say.mark(1, 1, 1)))
         link.ask(say.items(say.entry(1, 1, [(1, 5, 8, b"other")])))
         told = link.stats()
         pairs = [("failed", told[FAILED, 0], 1), ("tables", link.tables(), [1]), ("rows", told[ROWS, 0], 1), ("refusals", of(told, REFUSALS), {23: 1})]
-    with Staying(4, "--messages", "2", "--guard") as node, Counting(node.port) as link:
+    with Staying(4) as node, Counting(node.port) as link:
         pairs.append(("guarded", link.stats()[GUARDED, 0], 1))
     report("a failed node answers Stats and Tables, and a guarded one says so", differ(pairs))
 
 
 def without_stay():
-    """A node without --stay tells what it holds, and nothing else."""
+    """A node of `serve` tells what it holds, and nothing else."""
     port = free_port()
     words = [str(PROGRAM), "serve", "--log", "7", "--streams", "1", "--port", str(port), "--links", "1", "--messages", "2"]
     with subprocess.Popen(words, stdout=subprocess.PIPE, stderr=subprocess.DEVNULL, text=True) as child:
@@ -185,7 +185,7 @@ def without_stay():
             link.ask(say.items(E1, say.mark(1, 1, 1)))
             told, tables = link.stats(), link.tables()
         child.wait(LIMIT)
-    report("a node without --stay tells what it holds", differ([("metrics", list(told), [(name, 0) for name in range(1, 8)]), ("rows", told[ROWS, 0], 1), ("tables", tables, [1])]))
+    report("a node of serve tells what it holds", differ([("metrics", list(told), [(name, 0) for name in range(1, 8)]), ("rows", told[ROWS, 0], 1), ("tables", tables, [1])]))
 
 
 CHECKS = (of_what_is_held, of_connections, of_reserved_bytes, of_a_failed_node, without_stay)

@@ -1,5 +1,5 @@
 #!/usr/bin/env python3
-"""Checks of `bin/hkrep serve --stay` and `bin/hkrep node`: places that are given back, links that only read, limits of time, and peers that mean ill.
+"""Checks of `bin/hkrep node`: places that are given back, links that only read, limits of time, and peers that mean ill.
 
 Prints a line for each check and ends with 'N passed, M failed'. Standard library only."""
 import datetime
@@ -20,7 +20,7 @@ sys.path.append(str(pathlib.Path(__file__).resolve().parents[1] / "lib"))
 import messages as say
 from checks import differ, ended, free_port, guarded, is_built, report
 from messages import E1, TOO_LONG
-from staying import BATCH, PROGRAM, OwnNode, Staying, is_silent, said
+from staying import PROGRAM, OwnNode, Staying, is_silent, said
 
 PUSHED = say.items(E1, say.mark(1, 1, 1))
 GET = say.ask(1, say.get(1, 5))
@@ -40,7 +40,7 @@ def places_are_given_back():
         for at in range(100):
             with node.link() as link:
                 pairs.append((f"link {at}", link.ask(say.front()), ("front", 0, 0)))
-            pairs.append((f"its end {at}", node.line(), "ended 0"))
+        pairs.append(("their ends", [node.line() for _ in range(100)], ["ended 0"] * 100))
         with node.link() as first:
             pairs.append(("a push", first.ask(PUSHED), ("done", 2)))
             with node.link() as second:
@@ -81,18 +81,13 @@ ENDS = {"nothing": {"ended 0"}, "half a frame": {"ended 1", "ended 92"}, "anothe
         "a reset": {"ended 0", "ended 91"}}
 
 
-def hurt_batch(node, kind, count):
-    """So many bad peers of a kind, one after the other; how they ended."""
-    for _ in range(count):
-        hurt(node.port, kind)
-    return {node.line() for _ in range(count)}
-
-
 def hurt_often(node, count):
-    """So many bad peers of each kind, in batches so small that no line of an end is dropped; what is wrong with how they ended."""
+    """So many bad peers of each kind, one after the other; what is wrong with how they ended."""
     problems = []
     for kind, ends in ENDS.items():
-        told = set().union(*(hurt_batch(node, kind, min(BATCH, count - done)) for done in range(0, count, BATCH)))
+        for _ in range(count):
+            hurt(node.port, kind)
+        told = {node.line() for _ in range(count)}
         if not told <= ends:
             problems.append(f"{kind}: {sorted(map(str, told))}")
     return problems
@@ -209,8 +204,7 @@ def links_that_only_read():
 
 def links_that_feed():
     """Links to the port for feeders send items and ask, in both versions: each other change is refused with 4, ends the link, and is not made."""
-    later = ("--messages", "2")
-    with Staying(1, *later, reading=1, feeding=1) as node, node.link() as link:
+    with Staying(1, reading=1, feeding=1) as node, node.link() as link:
         with node.link(node.feed_port) as feeder:
             pairs = [("items", feeder.ask(PUSHED), ("done", 2)), ("an ask", feeder.ask(GET), ROW), ("its front", feeder.ask(say.front()), ("front", 0, 1)),
                      ("the status", feeder.ask(say.status())[0], "streams"), ("a whole", feeder.ask(say.whole(0, 0))[0], "last part"), ("known items", feeder.ask(say.feed(E1, say.mark(1, 1, 1))), ("fed", 3, 0))]
@@ -280,11 +274,11 @@ def what_is_told():
         with Staying(1, *option.split()) as node:
             with node.link() as link:
                 pairs = [("another log's item", link.ask(say.items(say.mark(1, 0, 0, log=8)))[:2], ("refused", 20))]
-            pairs.append(("its end", node.line(), "ended 0"))
             with node.link() as link:
                 link.send(TOO_LONG)
                 link.read_all()
-            pairs.append(("a fault's end", node.line(), "ended 2"))
+            ends = ["ended 2"] if option else ["ended 0", "ended 2"]
+            pairs.append(("the ends that are told", [node.line() for _ in ends], ends))
             until = time.monotonic() + 10
             while len(node.words) < len(told) and time.monotonic() < until:
                 time.sleep(0.01)
@@ -292,7 +286,7 @@ def what_is_told():
         pairs += [("how many lines", len(words), len(told))]
         pairs += [("a line", word[:len(start)], start) for word, start in zip(words, told)]
         problems += differ(pairs)
-    report("what a node that stays tells on standard error", problems)
+    report("what a node tells on standard error", problems)
 
 
 def heard(node, start):
@@ -303,45 +297,35 @@ def heard(node, start):
 
 
 def changes_are_told():
-    """With -v each change that takes effect is told, with --report-changes the front after so many; a refused one counts for neither."""
-    first, later = ["link 1: refused 24: ", "after 2 changes: front 0 5"], ["after 4 changes: front 1 5", "link 1: ended 0"]
-    wanted = {"-v": ["link 1: opened", "link 1: done 2", first[0], *(f"link 1: done {at}" for at in (3, 4, 5)), later[1]],
-              "-q --report-changes 2": first + later[:1],
-              "--report-changes 2 --guard -v": ["link 1: opened", "link 1: done 2", first[0], "link 1: done 3", first[1], "link 1: done 4", "link 1: done 5", *later]}
+    """With -v each change that takes effect is told, and no refused one."""
+    told = ["link 1: opened", "link 1: done 2", "link 1: refused 24: ", *(f"link 1: done {at}" for at in (3, 4, 5)), "link 1: ended 0"]
     problems = []
-    for options, told in wanted.items():
-        with Staying(1, *options.split()) as node:
+    for options in (["-v"], ["-v", "--no-guard"]):
+        with Staying(1, *options) as node:
             with node.link() as link:
                 pairs = [("a push", link.ask(PUSHED), ("done", 2)), ("a prune that is refused", link.ask(say.prune(9))[:2], ("refused", 24)), ("a row", link.ask(GET), ROW)]
-                for at, change in enumerate((say.items(say.mark(1, 1, 5)), say.prune(1), PUSHED), 3):
-                    pairs.append((f"change {at}", link.ask(change), ("done", at)))
-                    # the front is read once the change was answered, so the next one waits for what is told of it
-                    if at in (3, 5) and "--report-changes" in options:
-                        heard(node, first[1] if at == 3 else later[0])
+                pairs += [(f"change {at}", link.ask(change), ("done", at)) for at, change in enumerate((say.items(say.mark(1, 1, 5)), say.prune(1), PUSHED), 3)]
             pairs.append(("its end", node.line(), "ended 0"))
-            until = time.monotonic() + 10
-            while len(node.words) < len(told) and time.monotonic() < until:
-                time.sleep(0.01)
         words = [line.removesuffix("\n") for line in node.words]
         pairs += [("how many lines", len(words), len(told))] + [("a line", word[:len(start)], start) for word, start in zip(words, told)]
         problems += [f"{options}: {problem}" for problem in differ(pairs)]
-    report("what is told of changes, and of the front after so many", problems)
+    report("what is told of changes", problems)
 
 
 def changes_are_guarded():
-    """With --guard what contradicts is refused 23 and nothing changed, on each link; without it the node is damaged."""
+    """What contradicts is refused 23 and nothing changed, on each link; with --no-guard the node is damaged."""
     conflicts = say.items(say.entry(2, 2, [(1, 6, 9, b"\x42")]), say.entry(3, 3, ends=[(1, 5, 1)]), say.entry(4, 4, ends=[(1, 5, 1)]))
     other = say.join_this(facts=[(1, 5, 1, (9, b"\x43"), None)])
-    with Staying(2, "--guard") as node, node.link() as link, node.link() as second:
+    with Staying(2) as node, node.link() as link, node.link() as second:
         pairs = [("a push", link.ask(PUSHED), ("done", 2))]
         for name, change in ("items that contradict each other", conflicts), ("a fragment that contradicts", other):
             pairs += [(name, second.ask(change)[:2], ("refused", 23)), (f"after {name}", link.ask(say.front()), ("front", 0, 1))]
         pairs += [("the same items again", second.ask(PUSHED), ("done", 3)), ("a row", link.ask(GET), ROW),
                   ("a mark", link.ask(say.items(say.mark(1, 1, 9))), ("done", 4)), ("an entry for a closed time", second.ask(say.items(say.entry(2, 2, [(1, 6, 9, b"\x42")])))[:2], ("refused", 23)),
                   ("a later entry", second.ask(say.items(say.entry(2, 10, [(1, 6, 9, b"\x42")]))), ("done", 5))]
-    with Staying(1) as node, node.link() as link:
+    with Staying(1, "--no-guard") as node, node.link() as link:
         pairs += [("a push without it", link.ask(PUSHED), ("done", 2)), ("a conflict without it", link.ask(other)[:2], ("refused", 23)), ("the damage", link.ask(GET)[:2], ("refused", 41))]
-    report("changes are tested first with --guard", differ(pairs))
+    report("changes are tested first", differ(pairs))
 
 
 def heard_in(node, count):
@@ -360,7 +344,7 @@ def what_a_node_logs():
     of one slot each has its own number and address."""
     peers, wanted = [], []
     before = datetime.datetime.now(datetime.timezone.utc)
-    with OwnNode("-v", "--links", 1, "--report-changes", 1) as node:
+    with OwnNode("-v", "--links", 1) as node:
         pairs = [("what it opened", node.opened, f"listening on 127.0.0.1:{node.port} for 1 connections; log 7, streams 1, guarded, chunks {node.opened.split()[-2]} bytes")]
         for at in (1, 2):
             with node.link() as link:
@@ -369,7 +353,7 @@ def what_a_node_logs():
                 if at == 2:
                     link.send(TOO_LONG)
                     link.read_all()
-            wanted += [("info", peers[-1], f"link {at}: opened"), ("info", peers[-1], f"link {at}: done {at + 1}"), ("info", "-", f"after {at} changes: front 0 1"),
+            wanted += [("info", peers[-1], f"link {at}: opened"), ("info", peers[-1], f"link {at}: done {at + 1}"),
                        ("warn", peers[-1], f"link {at}: refused 20: "), (("info", peers[-1], f"link {at}: ended 0") if at == 1 else ("warn", peers[-1], f"link {at}: ended 2: "))]
             heard_in(node, len(wanted))
         lines = heard_in(node, len(wanted))
@@ -382,55 +366,78 @@ def what_a_node_logs():
     report("what a node logs of connections", differ(pairs))
 
 
-# a pipe of the system's least size, and so many connections that it and the 1,024 texts that wait are full of the lines of their ends before they end
-PIPE_BYTES, MANY_LINKS = 4_096, 2_000
+# a pipe of the system's least size; so many connections of each way to end go to each of three ports in a round, and so many rounds of a second fill the
+# pipe and the 1,024 texts that wait, though ten lines of a kind and a port are told in a second (among those that are dropped are some that count others)
+PIPE_BYTES, MANY_LINKS, OF_EACH, ROUNDS = 4_096, 2_000, 11, 9
+# how many connections are answered, of each kind of peer, and with which number they end
+WAYS = {b"": 0, TOO_LONG: 2, b"\0\0\0\2\3\x10": 3, b"\0\0\0\2\1\xff": 4, b"\0\0\0\2": 1}
 
 
-def counted(words, errors):
+def counted(errors):
     """How many lines of a node there are, with those that were dropped or are counted, and how many were dropped."""
     dropped = [int(found[1]) for found in (re.search(r"(\d+) lines were dropped\n", it) for it in errors) if found]
-    more = [int(found[1].replace(",", "")) for found in (re.search(r"([\d,]+) more: (?:opened|ended 0)\n", it) for it in errors) if found]
-    return len(words) + len(errors) - len(dropped) - len(more) + sum(dropped) + sum(more), sum(dropped)
+    more = [int(found[1].replace(",", "")) for found in (re.search(r"([\d,]+) more: (?:opened|ended \d+)\n", it) for it in errors) if found]
+    return len(errors) - len(dropped) - len(more) + sum(dropped) + sum(more), sum(dropped)
+
+
+def many_links(port):
+    """So many connections one after the other; what they were answered."""
+    answers = set()
+    for _ in range(MANY_LINKS):
+        with say.Link(port, 30) as link:
+            answers.add(link.ask(say.front()))
+    return answers
+
+
+def many_ends(ports):
+    """Connections that end in each way, at each of the ports, for some seconds; what they were answered that began with a request."""
+    answers = set()
+    for _ in range(ROUNDS):
+        until = time.monotonic() + 1
+        for port in ports:
+            for bad in [it for it in WAYS for _ in range(OF_EACH)]:
+                with say.Link(port, 30) as link:
+                    answers.add(link.ask(say.front()))
+                    link.send(bad)
+        time.sleep(max(0, until - time.monotonic()))
+    return answers
+
+
+def unread(asked, *more):
+    """What a node of this many ports tells in all, once nobody read it until the connections were answered: whether they were, its lines, and the seconds that they took."""
+    ports = [free_port() for _ in range(3)]
+    words = ["node", "--log", "7", "--streams", "1", "--links", "2", "--port", ports[0], *(it for pair in zip(more, ports[1:]) for it in (f"--{pair[0]}-port", pair[1], f"--{pair[0]}-links", 2))]
+    with subprocess.Popen([str(PROGRAM), *map(str, words)], stdout=subprocess.PIPE, stderr=subprocess.PIPE, text=True) as node:
+        fcntl.fcntl(node.stderr, fcntl.F_SETPIPE_SZ, PIPE_BYTES)
+        node.stdout.readline()
+        start = time.monotonic()
+        answers = asked(ports)
+        took, errors = time.monotonic() - start, []
+        reader = threading.Thread(target=lambda: errors.extend(said(node.stderr)), daemon=True)
+        reader.start()
+        # the last lines of a second, and then a fault
+        time.sleep(3)
+        with say.Link(ports[0], 30) as link:
+            link.send(TOO_LONG)
+            link.read_all()
+        until = time.monotonic() + 10
+        while not any("ended 2" in it for it in list(errors)[-3:]) and time.monotonic() < until:
+            time.sleep(0.02)
+        node.kill()
+        reader.join(10)
+    return answers, errors, took
 
 
 def full_pipes():
-    """Where nobody reads what a node prints its connections are answered all the same; how many lines were dropped is told once there is room. (Of standard
-    error ten of a kind are printed in a second, so nothing of `node` is dropped.)"""
-    problems = []
-    for words, of_each, last in ((["serve", "--stay", "-q", "--links", "2"], 1, 2), (["node", "--links", "2"], 2, 2)):
-        port = free_port()
-        with subprocess.Popen([str(PROGRAM), *words, "--log", "7", "--streams", "1", "--port", str(port)], stdout=subprocess.PIPE, stderr=subprocess.PIPE, text=True) as node:
-            for pipe in (node.stdout, node.stderr):
-                fcntl.fcntl(pipe, fcntl.F_SETPIPE_SZ, PIPE_BYTES)
-            node.stdout.readline()
-            answers = set()
-            start = time.monotonic()
-            for _ in range(MANY_LINKS):
-                with say.Link(port, 30) as link:
-                    answers.add(link.ask(say.front()))
-            took = time.monotonic() - start
-            lines, errors = [], []
-            readers = [threading.Thread(target=lambda to=to, pipe=pipe: to.extend(said(pipe)), daemon=True) for to, pipe in ((lines, node.stdout), (errors, node.stderr))]
-            for reader in readers:
-                reader.start()
-            until = time.monotonic() + 20
-            while counted(list(lines), list(errors))[0] < MANY_LINKS * of_each and time.monotonic() < until:
-                time.sleep(0.02)
-            # a fault, which is told with -q too
-            with say.Link(port, 30) as link:
-                link.send(TOO_LONG)
-                link.read_all()
-            until = time.monotonic() + 10
-            while counted(list(lines), list(errors))[0] < MANY_LINKS * of_each + last and time.monotonic() < until:
-                time.sleep(0.02)
-            node.kill()
-            for reader in readers:
-                reader.join(10)
-        got, dropped = counted(lines, errors)
-        pairs = [("the answers", answers, {("front", 0, 0)}), ("lines were dropped", dropped > 0, words[0] == "serve"), ("lines, with those that were dropped", got, MANY_LINKS * of_each + last),
-                 ("the last connection has its number", any(f"link {MANY_LINKS + 1}: ended 2: " in it for it in errors), True), ("in time", took < 60, True)]
-        problems += [f"{words[0]}: {problem}" for problem in differ(pairs)]
-    report("where nobody reads what a node prints, connections are answered", problems)
+    """Where nobody reads what a node prints its connections are answered all the same. Of one kind ten lines are told in a second, so of one kind nothing is dropped; of more than
+    there is room for it is told, once there is, how many lines were."""
+    pairs = []
+    for name, asked, others, links in (("one kind", lambda ports: many_links(ports[0]), (), MANY_LINKS), ("many kinds", many_ends, ("feed", "read"), 3 * len(WAYS) * OF_EACH * ROUNDS)):
+        answers, errors, took = unread(asked, *others)
+        got, dropped = counted(errors)
+        pairs += [(f"{name}: the answers", answers, {("front", 0, 0)}), (f"{name}: lines were dropped", dropped > 0, bool(others)), (f"{name}: all lines are counted", got == 2 * links + 2 or bool(others), True),
+                  (f"{name}: the last connection has its number", any(f"link {links + 1}: ended 2: " in it for it in errors), True), (f"{name}: in time", took < 60, True)]
+    report("where nobody reads what a node prints, connections are answered", differ(pairs))
 
 
 def bad_node_lines():
@@ -474,23 +481,23 @@ def addresses_and_bad_lines():
             pairs.append(("127.0.0.1", "listens", "does not listen"))
         except ConnectionRefusedError:
             pass
-    plain = ["--log", "7", "--streams", "1", "--port", "47999", "--links"]
-    for words in (["1", "--address", "127.0.0.1"], ["1", "--read-seconds", "3"], ["1", "--read-port", "47998", "--read-links", "1"],
-                  ["1", "--stay", "--read-port", "47998"], ["1", "--stay", "--read-links", "1"], ["65"], ["65536", "--stay"], ["1", "--workers", "1"], ["1", "--write-seconds", "3"], ["1", "--idle-seconds", "3"], ["1", "--read-rate", "3"], ["1", "--socket", "/tmp/unused"], ["1", "--read-socket", "/tmp/unused"], ["1", "--stay", "--socket"],
-                  ["1", "--stay", "--address", "node"], ["1", "--stay", "--read-seconds", "86401"], ["1", "--stay", "--read-seconds", "+1"], ["1", "-q"], ["1", "-v"], ["1", "--stay", "-q", "-v"],
-                  ["1", "--report-changes", "2"], ["1", "--stay", "--report-changes", "0"], ["1", "--feed-port", "47998", "--feed-links", "1"],
-                  ["1", "--stay", "--feed-port", "47998"], ["1", "--stay", "--feed-links", "1"], ["1", "--stay", "--read-port", "47998", "--read-links", "65536"]):
-        done = subprocess.run([str(PROGRAM), "serve", *plain, *words], capture_output=True, text=True, timeout=30, check=False)
-        pairs.append((" ".join(words), (done.returncode, done.stdout), (2, "")))
+    plain, further = ["--log", "7", "--streams", "1", "--port", "47999", "--links"], ["--read-port", "47998"]
+    serve = (["65"], ["1", "--stay"], ["1", "--address", "127.0.0.1"], ["1", "--read-seconds", "3"], ["1", *further, "--read-links", "1"], ["1", "--workers", "1"], ["1", "--socket", "/tmp/unused"], ["1", "-q"], ["1", "-v"],
+             ["1", "--report-changes", "2"])
+    node = (["1", *further], ["1", "--read-links", "1"], ["1", "--socket"], ["1", "--address", "node"], ["1", "--read-seconds", "86401"], ["1", "--read-seconds", "+1"], ["1", "-q", "-v"], ["1", "--report-changes", "2"],
+            ["1", "--feed-port", "47998"], ["1", "--feed-links", "1"], ["1", *further, "--read-links", "65536"], ["1", "--messages", "2"], ["1", "--stay"])
+    for command, lines in (("serve", serve), ("node", node)):
+        for words in lines:
+            done = subprocess.run([str(PROGRAM), command, *plain, *words], capture_output=True, text=True, timeout=30, check=False)
+            pairs.append((f"{command} {' '.join(words)}", (done.returncode, done.stdout), (2, "")))
     for words, told in ((["1", "--address", "localhost"], "'localhost' for '--address <A>': an IP address is wanted"), (["1", "--address", "[::1]"], "'[::1]' for '--address <A>': an IP address"),
                         (["65536"], "'65536' for '--links <N>'")):
-        done = subprocess.run([str(PROGRAM), "serve", *plain, *words, "--stay"], capture_output=True, text=True, timeout=30, check=False)
+        done = subprocess.run([str(PROGRAM), "node", *plain, *words], capture_output=True, text=True, timeout=30, check=False)
         pairs.append((f"what is told of {words}", (done.returncode, done.stdout, told in done.stderr), (2, "", True)))
     with socket.create_server(("127.0.0.1", 0)) as taken:
         port = str(taken.getsockname()[1])
-        done = subprocess.run([str(PROGRAM), "serve", "--log", "7", "--streams", "1", "--port", port, "--links", "1", "--stay"],
-                              capture_output=True, text=True, timeout=30, check=False)
-        pairs.append(("a port in use", (done.returncode, done.stdout), (1, "refused 93\n")))
+        done = subprocess.run([str(PROGRAM), "node", "--log", "7", "--streams", "1", "--port", port], capture_output=True, text=True, timeout=30, check=False)
+        pairs.append(("a port in use", (done.returncode, done.stdout, "refused 93: " in done.stderr), (1, "", True)))
     report("addresses, and bad command lines", differ(pairs))
 
 

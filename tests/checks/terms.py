@@ -48,7 +48,7 @@ TERMS = (
     (r"\b(?:links?|connections?) that only reads?\b", "read-only connection", ALL),
     (r"\bplaces? (?:of|for) (?:a|the|its|each|every|all|other)? ?(?:links?|connections?|seats?|readers?)\b|\b(?:its|their|all|free|every|whose|no) places?"
      r" (?:is|are|was|were) (?:taken|free|given|lost|held)", "connection slot", ALL),
-    (r"\bnodes? that stays?\b", "long-running node (`--stay`)", ALL),
+    (r"\bnodes? that stays?\b", "long-running node", ALL),
     # pinned times
     (r"(?<!take )(?<!take a )\b(?:a|another|each|every|no|least|first|last|whose|that|one|the) hold\b(?! of the)|\bholds (?:of|on) (?:a |its )?times?\b"
      r"|\bholds times\b|\bhold (?:a|its|that|the) time\b|\bholds (?:a|its|that|the) time\b", "pinned time, pin", READ),

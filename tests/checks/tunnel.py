@@ -18,12 +18,12 @@ ROOT = pathlib.Path(__file__).resolve().parents[2]
 sys.path.append(str(ROOT / "connectors" / "common"))
 sys.path.append(str(pathlib.Path(__file__).resolve().parents[1] / "lib"))
 import messages as say
-from blocks import walked
 from checks import differ, ended, free_port, guarded, is_built, report, skip
 from feeding import Certificates, Feed
 from packaged import va
 from shown import of
 from staying import PROGRAM, Staying
+from vadungsil.blocks import walked
 
 STUNNEL = shutil.which("stunnel") or shutil.which("stunnel4")
 AUTHORITY = ROOT / "deploy" / "stunnel" / "authority"
@@ -153,7 +153,7 @@ def strangers():
     """A reader and a feeder come through. A client without a certificate, with one of another authority, and one past its days are told so,
     also by asyncio; a reader can't feed; a feeder sends no fragment and prunes nothing; a node's side of another name, or of an authority that isn't ours, is left. The node sees
     those alone that may come, and what they do over TLS is what they do without."""
-    with tempfile.TemporaryDirectory() as name, Staying(2, "--messages", "2", reading=20, feeding=20) as node:
+    with tempfile.TemporaryDirectory() as name, Staying(2, reading=20, feeding=20) as node:
         folder, other = pathlib.Path(name) / "ours", pathlib.Path(name) / "theirs"
         certified(folder, ("reader", "reader"), ("feeder", "feeder"), ("reader", "late", "-1"))
         certified(other, ("reader", "other"))

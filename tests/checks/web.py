@@ -35,12 +35,12 @@ except ImportError:
 
 sys.path.append(str(pathlib.Path(__file__).resolve().parents[1] / "lib"))
 import web_parts
-from checks import differ, ended, guarded, is_built, report, skip, timed
+from checks import differ, ended, free_port, guarded, is_built, report, skip, timed
 from shown import of
 from client import PROGRAM
 from telling import OF_TABLES, STATS, Telling
 from web_parts import (FRAMES, KEYS, LAST, LIMIT, PACKAGE, ROOT, STREAMS, Served, Web, breaks, changes_of, fed, log_of, nodes, page_of, parsed_metrics,
-                       parsed_openmetrics, quiet_port, rows_at, va, waited, web_of)
+                       parsed_openmetrics, rows_at, va, waited, web_of)
 
 ENVIRONMENT = {**os.environ, "PYTHONPATH": str(PACKAGE), "PYTHONDONTWRITEBYTECODE": "1"}
 HEADS = {"Content-Security-Policy": r"default-src 'none'; script-src 'self'; style-src 'self'; connect-src 'self'; img-src 'self'; base-uri 'none'; "
@@ -279,7 +279,7 @@ def told_next(lines):
 
 def away_and_back():
     """A killed node is told, its questions are answered 503, and it is found again; one that was never there too."""
-    problems, port = [], quiet_port()
+    problems, port = [], free_port()
     with web_of([port]) as web:
         problems += differ([("not there", (web.node()["up"], web.node()["horizon"], web.json("/api/nodes")[1]["window"]), (False, None, None)),
                             ("asked", web.json("/api/get?table=1&key=0")[0], 503), ("metric", web.metric("vadungsil_node_up", node=f"127.0.0.1:{port}"), 0.0),
@@ -505,7 +505,7 @@ def own_process():
 def interface():
     """Each path of the OpenAPI file is asked, and each answer, refusals and errors too, has the told fields and no others."""
     problems, count = [], 0
-    with nodes(1) as (node,), web_of([node.port, quiet_port()]) as web:
+    with nodes(1) as (node,), web_of([node.port, free_port()]) as web:
         document = web.json("/api/openapi.json")[1]
         lone = f"&node=127.0.0.1:{node.port}"
         words = {"/api/nodes": [""], "/api/get": ["?table=1&key=5&at=9", "?table=1&key=5&at=99", "?table=1", "?table=1&key=5" + lone, "?table=1&key=5&node=x"],
@@ -605,7 +605,7 @@ def pictures():
     for name, words, data, wanted in (
             ("a prune above the mark", ["--horizon", "9"], story, (1, b"refused 24 readable 4\n")), ("a stream above", ["--streams", "1"], story, (1, b"refused 21\n")),
             ("two logs", [], story + va.encode(va.Mark(8, 1, 0, 0)), (1, b"refused 20\n")), ("cut off", [], story[:-1], (1, b"refused 1\n")),
-            ("no node", ["--node", f"127.0.0.1:{quiet_port()}"], b"", (1, b"refused 93\n")), ("keys", ["--keys", "1-5"], story, (2, b"")),
+            ("no node", ["--node", f"127.0.0.1:{free_port()}"], b"", (1, b"refused 93\n")), ("keys", ["--keys", "1-5"], story, (2, b"")),
             ("no file", ["--missing", "none.bin"], story, (2, b"")), ("streams", ["--streams", "65"], story, (1, b"refused 5\n")), ("nothing", [], b"", (0, None))):
         got = run([*picture, *words], data)
         problems += differ([(name, (got.returncode, got.stdout if wanted[1] is not None else None), wanted)])

@@ -14,9 +14,9 @@ from selenium.webdriver.common.keys import Keys
 from selenium.webdriver.support.ui import Select
 
 sys.path.append(str(pathlib.Path(__file__).resolve().parents[1] / "lib"))
-from checks import differ, guarded, report, timed
+from checks import differ, free_port, guarded, report, timed
 from telling import Telling
-from web_parts import FRAMES, LAST, LIMIT, STREAMS, Served, changes_of, fed, log_of, nodes, quiet_port, rows_at, va, waited, web_of
+from web_parts import FRAMES, LAST, LIMIT, STREAMS, Served, changes_of, fed, log_of, nodes, rows_at, va, waited, web_of
 
 ALL = "kind=range&table=1&low=0&high=18446744073709551615"
 HEX = f"{ALL}&view=hex"
@@ -137,7 +137,7 @@ def browser_text(driver):
 
 def browser_away(driver):
     """A killed node is told within three seconds, and found again; the other one goes on."""
-    problems, port = [], quiet_port()
+    problems, port = [], free_port()
     with nodes(1) as (node,), Served(8, streams=STREAMS, port=port) as other:
         fed(port)
         name = f"127.0.0.1:{port}"
@@ -410,7 +410,7 @@ def browser_widths(driver):
     """At 1180 and at 390 points no text is smaller than 11, none of a drawing goes beyond it, nothing scrolls sideways, and the slider is between its
     buttons; of a node that was never there no lag is drawn."""
     problems, late = [], [it for it in story()]
-    with nodes(2, late, 3) as two, web_of([*(it.port for it in two), quiet_port()], names={"tables": {}, "streams": {2: "the second one of all"}}) as web:
+    with nodes(2, late, 3) as two, web_of([*(it.port for it in two), free_port()], names={"tables": {}, "streams": {2: "the second one of all"}}) as web:
         for width in (1180, 390):
             driver.execute_cdp_cmd("Emulation.setDeviceMetricsOverride", {"width": width, "height": 844, "deviceScaleFactor": 1, "mobile": False})
             page = Page(driver, web, "kind=range&table=1&low=100&high=199&at=30&with=24")

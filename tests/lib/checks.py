@@ -1,6 +1,8 @@
 """What a script of checks says: a line for each check, and at the end 'N passed, M failed'; and ports for its nodes. Standard library only."""
 
+import collections
 import os
+import random
 import signal
 import socket
 import threading
@@ -10,7 +12,10 @@ import time
 signal.signal(signal.SIGINT, signal.default_int_handler)
 
 passed, failed, skipped = 0, 0, 0
-PORTS, PORTS_LOCK = set(), threading.Lock()
+# Ports that were given here, and a name for each of the last ones, which no other process can have meanwhile.
+PORTS, NAMES, PORTS_LOCK = set(), collections.deque(), threading.Lock()
+# Below the ports that the system hands out by itself, so that no connection takes one; and how many of those names are kept.
+RANGE, MOST_NAMES, CHANCE = (10_000, 32_000), 32, random.SystemRandom()
 # checks that are made side by side say one after the other what came of them
 REPORTING = threading.Lock()
 
@@ -44,14 +49,29 @@ def differ(pairs):
     return [f"{what}: {got!r}, wanted {wanted!r}" for what, got, wanted in pairs if got != wanted]
 
 
+def is_ours(port):
+    """Whether nobody listens on a port, and no other process that asks here was just given it: a name outside of all folders says so, which goes
+    with the process."""
+    name = socket.socket(socket.AF_UNIX)
+    try:
+        name.bind(f"\0port {port} of a check")
+        with socket.socket() as it:
+            it.bind(("127.0.0.1", port))
+    except OSError:
+        name.close()
+        return False
+    NAMES.append(name)
+    if len(NAMES) > MOST_NAMES:
+        NAMES.popleft().close()
+    return True
+
+
 def free_port():
-    """A port that nobody listens on, and that nobody here was given before."""
+    """A port that nobody listens on, and that nobody here was given before; nor anybody in another check, which may run beside this one."""
     with PORTS_LOCK:
         while True:
-            with socket.socket() as it:
-                it.bind(("127.0.0.1", 0))
-                port = it.getsockname()[1]
-            if port not in PORTS:
+            port = CHANCE.randrange(*RANGE)
+            if port not in PORTS and is_ours(port):
                 PORTS.add(port)
                 return port
 

@@ -99,8 +99,8 @@ class Bench:
         return child
 
     def start_node(self, port, *more):
-        node = self.start(HKREP, "serve", *WORDS, "--port", port, "--links", 64, *more, stdout=subprocess.PIPE)
-        holds(node.stdout.readline().startswith(b"listening"), "the node doesn't listen")
+        node = self.start(HKREP, "node", *WORDS, "--port", port, "--links", 64, *more, stdout=subprocess.PIPE)
+        holds(node.stdout.readline().startswith(b"listening on "), "the node doesn't listen")
         return node
 
     def reached(self, part, port=None):

@@ -1,8 +1,9 @@
 #!/usr/bin/env python3
 """A second replica, written from docs/DEFINITIONS.md and docs/FORMATS.md alone, to compare the program with (tests/checks/compare).
 
-It keeps whole sets of items and looks at all of them for each answer; nothing is pruned or merged step by step: `played` is
-what `hkrep world` prints of a script, `printed` what `items` prints of frames, `asked` what `at` does. By hand: `tests/lib/reference.py world|items|at ..`.
+It keeps whole sets of items and looks at all of them for each answer, and merges nothing step by step: `played` is what `hkrep world` prints of a
+script, `printed` what `items` prints of frames, `asked` what `at` does, and `told` what a node answers to lists of items, prunes and questions, between
+which a prune takes rows and ends away. By hand: `tests/lib/reference.py world|items|at ..`.
 Standard library only."""
 import sys
 
@@ -248,34 +249,88 @@ def content_of(items, streams, horizon):
             [(entries_of(items, it), closed(items, it), waiting(items, it)) for it in range(1, streams + 1)])
 
 
-def shown(items, time):
-    """The tables that a content shows at a time: of each row key the newest row born by then, unless it has ended."""
-    rows, ends, newest = rows_of(items), ends_of(items), {}
+def shown_of(rows, ends, time):
+    """The tables that rows and ends show at a time: of each row key the newest row born by then, unless it has ended."""
+    newest = {}
     for (table, key, born), row in rows.items():
         if born <= time and born > newest.get((table, key), (0, None))[0]:
             newest[table, key] = (born, row)
     return {place: row for place, (born, row) in newest.items() if not ends.get((*place, born), time + 1) <= time}
 
 
-def conflicts(items, entry):
-    rows, ends = rows_of(items), ends_of(items)
+def shown(items, time):
+    """The same of items."""
+    return shown_of(rows_of(items), ends_of(items), time)
+
+
+def conflicts(rows, ends, items, entry):
     return (any(rows.get((*place, entry.time), row) != row for place, row in entry.rows)
             or any(ends.get(version, entry.time) != entry.time for version in entry.ends)
             or entry.time <= closed(items, entry.stream))
 
 
-def absorbed(items, item, log, streams):
-    """The items with one more, or the refusal."""
-    if item.log != log:
-        raise Refused(20)
-    if item.stream > streams:
-        raise Refused(21)
-    if isinstance(item, Entry):
-        if item.number in entries_of(items, item.stream):
-            return items
-        if conflicts(items, item):
+def horizon_after(items, streams, horizon, time):
+    """The oldest readable time after a prune, or the refusal."""
+    mark = readable(items, streams)
+    if time > mark:
+        raise Refused(24, "readable", mark)
+    return max(horizon, time)
+
+
+def check_readable(items, streams, horizon, time):
+    mark = readable(items, streams)
+    if time < horizon:
+        raise Refused(25, "horizon", horizon)
+    if time > mark:
+        raise Refused(26, "readable", mark)
+
+
+class Held:
+    """What is held of items that come one by one, with prunes between them: the rows and ends that these left, and of the streams all items."""
+
+    def __init__(self, log, streams, guarded=False):
+        self.log, self.streams, self.guarded, self.horizon = log, streams, guarded, 0
+        self.items, self.rows, self.ends = [], {}, {}
+
+    def absorb(self, item):
+        if item.log != self.log:
+            raise Refused(20)
+        if item.stream > self.streams:
+            raise Refused(21)
+        if isinstance(item, Entry):
+            if item.number in entries_of(self.items, item.stream):
+                return
+            if conflicts(self.rows, self.ends, self.items, item):
+                raise Refused(23)
+            self.rows = {**self.rows, **rows_of([item])}
+            self.ends = {**self.ends, **ends_of([item])}
+        self.items = [*self.items, item]
+
+    def take(self, *frames):
+        """All items of these, or none."""
+        before = self.items, self.rows, self.ends
+        try:
+            for it in items_of(b"".join(frames))[0]:
+                self.absorb(it)
+        except Refused:
+            self.items, self.rows, self.ends = before
+            raise
+        return ["done"]
+
+    def prune(self, time):
+        """A guarded node refuses a prune that lets an older row show."""
+        horizon = horizon_after(self.items, self.streams, self.horizon, time)
+        gone = {version for version, died in self.ends.items() if died <= horizon}
+        rows = {version: row for version, row in self.rows.items() if version not in gone}
+        ends = {version: died for version, died in self.ends.items() if version not in gone}
+        if self.guarded and shown_of(rows, ends, horizon) != shown_of(self.rows, self.ends, horizon):
             raise Refused(23)
-    return [*items, item]
+        self.horizon, self.rows, self.ends = horizon, rows, ends
+        return ["done"]
+
+    def ask(self, time, *query):
+        check_readable(self.items, self.streams, self.horizon, time)
+        return answer(shown_of(self.rows, self.ends, time), query)
 
 
 # ---------------------------------------------------------------- answers
@@ -473,10 +528,7 @@ class World:
 
     def prune(self, replica, time):
         items, horizon = self.replica(replica)
-        mark = readable(items, self.streams)
-        if time > mark:
-            raise Refused(24, "readable", mark)
-        self.replicas[replica - 1] = (items, max(horizon, time))
+        self.replicas[replica - 1] = (items, horizon_after(items, self.streams, horizon, time))
         return ["ok"]
 
     def merge(self, to, of):
@@ -499,11 +551,7 @@ class World:
                 raise Refused(26, "readable", self.primary.readable())
         else:
             items, horizon = self.replica(replica)
-            mark = readable(items, self.streams)
-            if time < horizon:
-                raise Refused(25, "horizon", horizon)
-            if time > mark:
-                raise Refused(26, "readable", mark)
+            check_readable(items, self.streams, horizon, time)
         return answer(self.primary.tables_at(time), query)
 
     def front(self, replica):
@@ -560,18 +608,26 @@ def printed(data):
 def asked(data, log, streams, time, table, key):
     """What `at` prints of the data, and the status."""
     items, fault = items_of(data)
-    taken = []
+    held = Held(log, streams)
     try:
         for it in items:
-            taken = absorbed(taken, it, log, streams)
+            held.absorb(it)
         if fault is not None:
             raise Refused(fault)
-        mark = readable(taken, streams)
-        if time > mark:
-            raise Refused(26, "readable", mark)
-        return answer(shown(taken, time), ["get", table, key]), 0
+        return held.ask(time, "get", table, key), 0
     except Refused as refused:
         return [str(refused)], 1
+
+
+def told(steps, log, streams, guarded):
+    """What a node answers to steps: ("take", frame ..), ("prune", time), ("ask", time, word ..). One that isn't guarded gets nothing that conflicts."""
+    held, lines = Held(log, streams, guarded), []
+    for name, *words in steps:
+        try:
+            lines += getattr(held, name)(*words)
+        except Refused as refused:
+            lines.append(str(refused))
+    return lines
 
 
 def main(words):

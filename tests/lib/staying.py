@@ -1,6 +1,7 @@
-"""Long-running nodes for the tests, `hkrep serve --stay` and `hkrep node`, with what they print as it comes. Standard library only."""
+"""Long-running nodes for the tests, `hkrep node`, with what they print as it comes. Standard library only."""
 import pathlib
 import queue
+import re
 import resource
 import subprocess
 import threading
@@ -10,11 +11,14 @@ from checks import free_port
 
 PROGRAM = pathlib.Path(__file__).resolve().parents[2] / "bin" / "hkrep"
 LIMIT = 30
-# how many connections may come and go before the lines of their ends are read: a node prints three texts of each, and drops lines where 1,024 texts wait
-# to be written
-BATCH = 200
 # how many lines of standard error are told where a line of standard output lacks
 LAST_WORDS = 5
+
+# a line of standard error: its time, how grave it is, the peer, and the words
+LOGGED = re.compile(r"\S+Z (?:info|warn|error) \S+ (.*\n)")
+# of the words, the end of a connection, and of how many more ends of one kind there is one line: ten a second have one of their own
+ENDED = re.compile(r"link \d+: ended (\d+)\b")
+MORE_ENDED = re.compile(r"([\d,]+) more: ended (\d+)\b")
 
 
 def said(pipe):
@@ -51,13 +55,16 @@ class Running:
         self.child = subprocess.Popen([*before, str(PROGRAM), *words], stdout=subprocess.PIPE, stderr=subprocess.PIPE, text=True, preexec_fn=restrict)
         self.lines, self.words = queue.Queue(), []
         threading.Thread(target=self._read, daemon=True).start()
-        self.words_thread = threading.Thread(target=lambda: self.words.extend(said(self.child.stderr)), daemon=True)
+        self.words_thread = threading.Thread(target=self._hear, daemon=True)
         self.words_thread.start()
 
     def _read(self):
         for line in self.child.stdout:
             self.lines.put(line.removesuffix("\n"))
         self.lines.put(None)
+
+    def _hear(self):
+        self.words.extend(said(self.child.stderr))
 
     def _failed(self, told):
         self.child.kill()
@@ -94,22 +101,37 @@ class Running:
 
 
 class Staying(Running):
-    """A node of `hkrep serve --stay`."""
+    """A node of log 7 that tells its words without the time, and whose lines are the ends of its connections, `ended` and the number, where they are told."""
 
     def __init__(self, links, *options, streams=1, reading=0, feeding=0, address="127.0.0.1", **limits):
         self.port, self.read_port, self.feed_port = free_port(), free_port(), free_port()
-        words = ["serve", "--log", "7", "--streams", str(streams), "--port", str(self.port), "--links", str(links), "--stay", *options]
+        self.opened = queue.Queue()
+        words = ["node", "--log", "7", "--streams", str(streams), "--port", str(self.port), "--links", str(links), *map(str, options)]
         if feeding:
             words += ["--feed-port", str(self.feed_port), "--feed-links", str(feeding)]
         if reading:
             words += ["--read-port", str(self.read_port), "--read-links", str(reading)]
         super().__init__(words, address, **limits)
-        wanted = [f"listening {self.port}"] + ([f"feeding {self.feed_port}"] if feeding else []) + ([f"reading {self.read_port}"] if reading else [])
-        told = []
-        while len(told) < len(wanted) and None not in told:
-            told.append(self.line())
-        if told != wanted:
+        told = self.opened.get(timeout=LIMIT)
+        if not (told or "").startswith(f"listening on {address}:{self.port} "):
             self._failed(told)
+
+    def _read(self):
+        for line in self.child.stdout:
+            self.opened.put(line.removesuffix("\n"))
+        self.opened.put(None)
+
+    def _hear(self):
+        for line in said(self.child.stderr):
+            found = LOGGED.fullmatch(line)
+            words = found[1] if found else line
+            self.words.append(words)
+            if ended := ENDED.match(words):
+                self.lines.put(f"ended {ended[1]}")
+            if more := MORE_ENDED.match(words):
+                for _ in range(int(more[1].replace(",", ""))):
+                    self.lines.put(f"ended {more[2]}")
+        self.lines.put(None)
 
 
 class OwnNode(Running):

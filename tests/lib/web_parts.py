@@ -8,7 +8,6 @@ import os
 import pathlib
 import random
 import re
-import socket
 import subprocess
 import sys
 import time
@@ -63,18 +62,6 @@ def changes_of(before, after):
 def fed(port, frames=None):
     with va.Node(port) as node:
         node.items(FRAMES if frames is None else frames)
-
-
-def quiet_port():
-    """A free port below those that the system hands out by itself, so that nobody else takes it while nothing listens on it."""
-    while True:
-        port = random.randrange(20_000, 32_000)
-        with socket.socket() as probe:
-            try:
-                probe.bind(("127.0.0.1", port))
-                return port
-            except OSError:
-                continue
 
 
 @contextlib.contextmanager

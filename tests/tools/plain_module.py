@@ -11,6 +11,8 @@ HINTS = {"#[inline(always)]": "alwaysinline", "#[inline]": "inlinehint", "#[inli
 IMPL = re.compile(r"^impl\b(.*)$")
 FUNCTION = re.compile(r"\bfn\s+(\w+)")
 DEFINED = re.compile(r'^define [^@]*@"([^"]+)"')
+# a function of the library for C: in a program that crates/hk_c was made to be, it has the crate's name before its own, and isn't seen outside
+EXPORT = re.compile(r'@"hk_c::(hk_\w+)"')
 NAMED = re.compile(r"(?:&(?:'\w+\s+)?(?:mut\s+)?)?(?:\w+::)*(\w+)")
 
 
@@ -102,12 +104,18 @@ def plain(line, hints):
     return line
 
 
+def exported(line):
+    """A line with the functions of the library for C under their own names, seen outside where it begins one."""
+    named = EXPORT.sub(r"@\1", line)
+    return named.replace("define internal", "define", 1) if named != line else line
+
+
 def main(source, target, *folders):
     hints = all_hints(folders)
     with open(source, encoding="utf-8", errors="surrogateescape") as lines, open(target, "w", encoding="utf-8", errors="surrogateescape") as out:
         for line in lines:
             if not (line.startswith("  ") and is_check(line)):
-                out.write(plain(line, hints))
+                out.write(exported(plain(line, hints)))
 
 
 main(*sys.argv[1:])

@@ -1,8 +1,11 @@
 """Uses that a strict look at types has to refuse, one in each line that says so, and in no other (tests/checks/typed.py)."""
-from vadungsil import AsyncNode, Get, LogWriter, Mark, Node, Row, later
+from vadungsil import AsyncLogFile, AsyncNode, Get, LogFile, LogWriter, Mark, Node, Row, later
 
 
-def misused(node: Node, log: LogWriter, other: AsyncNode) -> int:
+def misused(node: Node, log: LogWriter, other: AsyncNode, file: LogFile, tasks: AsyncLogFile) -> int:
+    print(file.commit([(1, 5, 9, b"")]).number)      # refused: it may be None
+    LogFile("orders.log")      # refused: without a log
+    print(tasks.commit([(1, 5, 9, b"")]).number)      # refused: it has to be awaited
     print(node.get(1, 5).body)      # refused: it may be None
     node.get("1", 5)      # refused: a table is a number
     node.items(5)      # refused: a number is no item

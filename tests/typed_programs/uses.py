@@ -5,8 +5,8 @@ import asyncio
 from typing import Dict, Iterator, List, Optional, Tuple, Union
 
 import vadungsil
-from vadungsil import (AsyncChanges, AsyncNode, Change, Changes, Count, Entry, Feeder, Fragment, Front, Get, Hold, Item, KeyRow, LinkBroken, Later, LogWriter, Mark, Member, NameCollision,
-                       Names, Node, Nodes, NotANode, NotAName, Operations, Range, Refused, Row, Stream, TooOld, export, later)
+from vadungsil import (AsyncChanges, AsyncLogFile, AsyncNode, Broken, Change, Changes, Count, Entry, Feeder, Fragment, Front, Get, Hold, Identity, Item, KeyRow, LinkBroken, Later, LogFile, LogInUse,
+                       LogWriter, Mark, Member, NameCollision, Names, Node, Nodes, NotANode, NotAName, NotKept, NotWritten, Operations, Range, Refused, Row, Stream, Term, TooOld, export, later)
 from vadungsil.address import Place, place_of
 from vadungsil.bodies import shown, table_of
 from vadungsil.embedded import Replica
@@ -33,6 +33,33 @@ def clocked(node: Node) -> List[Item]:
     beat: List[Item] = log.beat(2, 1)
     node.items([*beat, *other.beat(2, 1, tag=9, stream=2)])
     return LogWriter.behind(7, [3], 9, {}, clock=False).beat(2, 1)
+
+
+def kept(path: str) -> int:
+    try:
+        with LogFile(path, log=7, beat_seconds=1, sync="group", identity=None) as log:
+            entry: Optional[Entry] = log.commit(puts=[(1, 5, 9, b"A")], removes=[(1, 6)])
+            with log.transaction() as it:
+                it.puts += Names(3).puts(["ada"], it)
+            marks: List[Mark] = [*log.marks(), log.mark(1), log.retire(1)]
+            log.flush()
+            log.fork(path + ".other", 8)
+            gone: int = log.compact(9, nodes=[7420, "unix:/tmp/node"]) + log.compact(before=9)
+            term: Optional[Term] = log.term
+            identity: Optional[Identity] = log.identity
+            return gone + len(Names(3).puts(["bob"], log)) + (term.number if term else 0) + len(identity.bits if identity else b"") + len(marks) + (entry.number if entry else 0)
+    except LogInUse as error:
+        return error.status
+    except (Broken, NotWritten, NotKept) as error:
+        return len(str(error))
+
+
+async def kept_by_tasks(path: str) -> Tuple[Optional[Entry], List[Item]]:
+    async with AsyncLogFile(path, log=7, clock=lambda: 5) as log:
+        async with log.transaction() as it:
+            it.put(1, 5, 9, b"C")
+        await log.flush()
+        return await log.commit([(1, 5, 9, b"A")]) or it.entry, await log.beat(2, 1)
 
 
 def named(log: LogWriter, node: Node, nodes: Nodes) -> Optional[str]:

@@ -1,20 +1,27 @@
 """Reads from nodes of Vadungsil, and writes logs for them: docs/PYTHON.md. Standard library only."""
 from . import later
 from .aio import AsyncChanges, AsyncMoment, AsyncNode
+from .aio_log_file import AsyncLogFile
 from .changes import Change, Changes
 from .errors import (
+    Broken,
     Fault,
     LinkBroken,
+    LogInUse,
     NotANode,
     NothingToResume,
+    NotKept,
     NotResumable,
+    NotWritten,
     NotYet,
     Refused,
     TimeLimit,
     TooOld,
     VadungsilError,
 )
+from .identity import Identity, Term
 from .items import Feeder, Head, decode, encode, head_of
+from .log_file import LogFile
 from .members import Member
 from .messages import ReplyFeeder, RequestFeeder, decode_reply, decode_request, encode_reply, encode_request
 from .export import export
@@ -65,8 +72,10 @@ __all__ = [
     "Ask",
     "AskFront",
     "AsyncChanges",
+    "AsyncLogFile",
     "AsyncMoment",
     "AsyncNode",
+    "Broken",
     "ByTag",
     "Change",
     "Changes",
@@ -83,12 +92,15 @@ __all__ = [
     "Get",
     "Head",
     "Hold",
+    "Identity",
     "Item",
     "Items",
     "JoinThis",
     "KeyRow",
     "Later",
     "LinkBroken",
+    "LogFile",
+    "LogInUse",
     "LogWriter",
     "Mark",
     "Member",
@@ -102,7 +114,9 @@ __all__ = [
     "NodesMoment",
     "NotAName",
     "NotANode",
+    "NotKept",
     "NotResumable",
+    "NotWritten",
     "NotYet",
     "NothingToResume",
     "Number",
@@ -118,6 +132,7 @@ __all__ = [
     "Row",
     "Rows",
     "Stream",
+    "Term",
     "TimeLimit",
     "TooOld",
     "Transaction",

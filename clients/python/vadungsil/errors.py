@@ -129,6 +129,28 @@ class NotResumable(VadungsilError):
     """A full snapshot from which a log can't be continued, and why."""
 
 
+class Broken(VadungsilError):
+    """What is there, or is to be there, is no log, and where and why; `status` is that of the programs which say so."""
+
+    def __init__(self, status: int, text: str) -> None:
+        super().__init__(text)
+        self.status = status
+
+
+class LogInUse(Broken):
+    """Another program writes to the file of a log."""
+
+
+class NotWritten(VadungsilError):
+    """A commit that isn't in the file of a log, and of which nothing stays there: the disk is full, or a write failed.
+    `__cause__` is the system's error. The log goes on: a later commit may go well."""
+
+
+class NotKept(VadungsilError):
+    """A write to the file of a log of which isn't known whether it stays, as the disk said of its checksum that it
+    failed. `__cause__` is the system's error. The log takes no more: who opens it anew reads what stays."""
+
+
 class NothingToResume(NotResumable):
     """A full snapshot without an entry, as of a node that nobody has fed yet: a writer behind that would begin a second
     history under the same log. `LogWriter.resume(.., empty=True)` where the log does begin there."""

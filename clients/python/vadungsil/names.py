@@ -14,7 +14,7 @@ from typing import Dict, Iterable, List, Optional, Tuple, Union
 from .errors import Fault, VadungsilError
 from .requests import Moment, Reads
 from .values import MOST_BODY, KeyRow, Put, Row, table_of
-from .writer import LogWriter, Transaction
+from .writer import Transaction, Writing
 
 # a node, several as one, an embedded replica; or one moment of any
 Asked = Union[Reads[Optional[Row], List[KeyRow], int], Moment[Optional[Row], List[KeyRow], int]]
@@ -89,7 +89,7 @@ class Names:
 
     # ------------------------------------------------------------ writing
 
-    def puts(self, texts: Iterable[str], log: Union[LogWriter, Transaction]) -> List[Put]:
+    def puts(self, texts: Iterable[str], log: Union[Writing, Transaction]) -> List[Put]:
         """The rows that a transaction of this log has to put beside its own, so that each of these texts is in the
         table of names: one for each that isn't there. `log.commit([*names.puts(["ada"], log), *rows])`, or in an open
         transaction `it.puts += names.puts(["ada"], it)`. They count among its 1,024 writes.

@@ -14,6 +14,7 @@ import uuid
 from typing import Any, Dict, Iterable, Iterator, List, NamedTuple, Optional, Tuple, Union
 
 from .errors import TimeLimit, VadungsilError
+from .identity import OWN as OWN
 from .names import digest_of as digest_of, key_and_check as key_and_check  # which others take from here
 from .names import key_of_text
 from .node import Node
@@ -22,9 +23,9 @@ from .values import LAST_KEY, KeyRow, Row
 # A transaction has so many times, of which its last entry has the last.
 TIMES = 2**20
 
-# The table of the capture itself, and its keys: the last commit, what is captured, and from there on, by its number,
+# The keys of table 0, beside those of identity.py: the last commit, what is captured, and from there on, by its number,
 # each table.
-OWN, COMMIT, HEAD, TABLES = 0, 0, 1, 2**16
+COMMIT, HEAD, TABLES = 0, 1, 2**16
 
 Key = Union[int, str, uuid.UUID]
 Columns = Dict[str, Any]

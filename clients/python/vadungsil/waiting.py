@@ -21,7 +21,7 @@ LONGEST = 30.0
 # So long is waited beyond a time limit for the reply that says so.
 SLACK = 1.0
 
-# Where a node replies at once (it was started without --stay), or is away, it is asked again after a pause, which
+# Where a node replies at once (it was started by `hkrep serve`), or is away, it is asked again after a pause, which
 # doubles.
 LONGEST_PAUSE = 1.0
 

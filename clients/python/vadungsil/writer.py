@@ -5,6 +5,7 @@ Nothing of it is proved. A replica answers with the primary's rows where its ite
 here is what the primary did, nobody sees but its owner."""
 from __future__ import annotations
 
+import abc
 from time import time_ns
 from typing import Any, Callable, Dict, Iterable, List, MutableMapping, Optional, Sequence, Tuple, Union
 
@@ -52,18 +53,8 @@ def _microseconds() -> int:
     return time_ns() // 1_000
 
 
-class LogWriter:
-    """Hands out numbers, births and, if wanted, times, and gives the entries and marks to send. One thread at a time.
-
-    It keeps for each row that is there the time of its birth: about 150 bytes a row. A transaction that is refused
-    changes nothing.
-
-    With `clock=True` a commit without a time takes the clock's, in microseconds since 1970, or one above the last where
-    the clock stands still or fell: so where it was ahead, times go on from there till it has caught up. `clock` may be
-    what gives the microseconds: a whole number (`TypeError`) from 0 to 2^62 (6), asked at each such commit. Nodes know
-    nothing of a clock: they refuse 26 what is above the resolved time, which commits and `beat` move with their marks.
-    `TypeError`: `clock` is neither a bool nor callable.
-    """
+class Writing(abc.ABC):
+    """What hands out numbers, births and times: a `LogWriter`, or a `LogFile` that keeps what is written too."""
 
     def __init__(self, log: int, streams: int, *, clock: Clock = False) -> None:
         self.log = number_in(log, 0, 2**64 - 1, "log")
@@ -76,6 +67,7 @@ class LogWriter:
 
     # ------------------------------------------------------------ writing
 
+    @abc.abstractmethod
     def commit(
         self, puts: Iterable[Written] = (), removes: Iterable[Place] = (), stream: int = 1, time: Optional[int] = None
     ) -> Optional[Entry]:
@@ -85,26 +77,12 @@ class LogWriter:
 
         Refused, in this order: 32 a key that is written twice, 33 a write after 1,024, 34 no such stream, 36 a retired
         one, 31 a removed row that is not there, 35 no time is left, 6 a time that is not above the last."""
-        writes = self._writes(puts, removes)
-        at = self._open(stream)
-        for (table, key), row in sorted(writes.items(), key=lambda it: it[0]):
-            if row is None and (table, key) not in self._born:
-                raise Refused(31, table, key, place=f"stream {stream}")
-        if not writes:
-            return None
-        entry = self._entry(writes, stream, at, self._next(time))
-        for place, row in writes.items():
-            if row is None:
-                del self._born[place]
-            else:
-                self._born[place] = entry.time
-        self.time, self._numbers[at] = entry.time, entry.number
-        return entry
 
     def transaction(self, stream: int = 1, time: Optional[int] = None) -> "Transaction":
         """`with writer.transaction() as it:`, and `it.entry` behind the block."""
         return Transaction(self, stream, time)
 
+    @abc.abstractmethod
     def beat(self, table: int, key: int, tag: int = 0, stream: Optional[int] = None) -> List[Item]:
         """Commits a row whose body is the time in decimal digits, and gives the entry and the marks of all streams that
         are not retired: `node.items(log.beat(2, 1))`. So the resolved time moves while nothing else is written, and
@@ -113,12 +91,11 @@ class LogWriter:
 
         Refused, with nothing changed: 34 no such stream, 36 a retired one, or all are, 35 no time is left, 6 a table, a
         key, a tag or a clock outside its range."""
-        if stream is None:
-            stream = self._retired.index(False) + 1 if False in self._retired else 1
-        self._open(stream)
-        time = self._next(None)
-        entry = self.commit([(table, key, tag, str(time).encode())], stream=stream, time=time)
-        return [it for it in (entry, *self.marks()) if it is not None]
+
+    @abc.abstractmethod
+    def retire(self, stream: int) -> Mark:
+        """The last mark of a stream, which takes no commit from then on and holds no replica back. 34 and 36 as
+        above."""
 
     def mark(self, stream: int) -> Mark:
         """The mark that closes a stream up to the last commit. 34 and 36 as above."""
@@ -128,12 +105,6 @@ class LogWriter:
     def marks(self) -> List[Mark]:
         """The marks of all streams that are not retired: what a node needs to be readable up to the last commit."""
         return [self.mark(stream) for stream in range(1, self.streams + 1) if not self._retired[stream - 1]]
-
-    def retire(self, stream: int) -> Mark:
-        """The last mark of a stream, which takes no commit from then on and holds no replica back."""
-        at = self._open(stream)
-        self._retired[at] = True
-        return Mark(self.log, stream, self._numbers[at], LAST_TIME)
 
     # ------------------------------------------------------------ what is kept
 
@@ -149,6 +120,37 @@ class LogWriter:
         return self._retired[number_in(stream, 1, self.streams, "stream", 34) - 1]
 
     # ------------------------------------------------------------ parts
+
+    def _made(
+        self, puts: Iterable[Written], removes: Iterable[Place], stream: int, time: Optional[int]
+    ) -> Optional[Entry]:
+        """The entry of a transaction, which doesn't count before `_took`."""
+        writes = self._writes(puts, removes)
+        at = self._open(stream)
+        for (table, key), row in sorted(writes.items(), key=lambda it: it[0]):
+            if row is None and (table, key) not in self._born:
+                raise Refused(31, table, key, place=f"stream {stream}")
+        return self._entry(writes, stream, at, self._next(time)) if writes else None
+
+    def _made_beat(self, table: int, key: int, tag: int, stream: Optional[int]) -> Entry:
+        """The entry of a beat."""
+        if stream is None:
+            stream = self._retired.index(False) + 1 if False in self._retired else 1
+        self._open(stream)
+        time = self._next(None)
+        entry = self._made([(table, key, tag, str(time).encode())], (), stream, time)
+        assert entry is not None
+        return entry
+
+    def _took(self, entry: Entry) -> None:
+        """An entry that was made counts."""
+        rows = {(it.table, it.key) for it in entry.rows}
+        for end in entry.ends:
+            if (end.table, end.key) not in rows:
+                del self._born[end.table, end.key]
+        for place in rows:
+            self._born[place] = entry.time
+        self.time, self._numbers[entry.stream - 1] = entry.time, entry.number
 
     @staticmethod
     def _writes(puts: Iterable[Written], removes: Iterable[Place]) -> Dict[Place, Optional[Row]]:
@@ -186,6 +188,38 @@ class LogWriter:
         ends = [VersionKey(*place, self._born[place]) for place in writes if place in self._born]
         rows = [Put(*place, row) for place, row in writes.items() if row is not None]
         return Entry.of(self.log, stream, self._numbers[at] + 1, time, ends, rows)
+
+
+class LogWriter(Writing):
+    """Hands out numbers, births and, if wanted, times, and gives the entries and marks to send. One thread at a time.
+
+    It keeps for each row that is there the time of its birth: about 150 bytes a row. A transaction that is refused
+    changes nothing.
+
+    With `clock=True` a commit without a time takes the clock's, in microseconds since 1970, or one above the last where
+    the clock stands still or fell: so where it was ahead, times go on from there till it has caught up. `clock` may be
+    what gives the microseconds: a whole number (`TypeError`) from 0 to 2^62 (6), asked at each such commit. Nodes know
+    nothing of a clock: they refuse 26 what is above the resolved time, which commits and `beat` move with their marks.
+    `TypeError`: `clock` is neither a bool nor callable.
+    """
+
+    def commit(
+        self, puts: Iterable[Written] = (), removes: Iterable[Place] = (), stream: int = 1, time: Optional[int] = None
+    ) -> Optional[Entry]:
+        entry = self._made(puts, removes, stream, time)
+        if entry is not None:
+            self._took(entry)
+        return entry
+
+    def beat(self, table: int, key: int, tag: int = 0, stream: Optional[int] = None) -> List[Item]:
+        entry = self._made_beat(table, key, tag, stream)
+        self._took(entry)
+        return [entry, *self.marks()]
+
+    def retire(self, stream: int) -> Mark:
+        at = self._open(stream)
+        self._retired[at] = True
+        return Mark(self.log, stream, self._numbers[at], LAST_TIME)
 
     # ------------------------------------------------------------ going on
 
@@ -276,7 +310,7 @@ class LogWriter:
 class Transaction:
     """Writes that are committed when the block is left, and dropped where it raises."""
 
-    def __init__(self, writer: LogWriter, stream: int, time: Optional[int]) -> None:
+    def __init__(self, writer: Writing, stream: int, time: Optional[int]) -> None:
         self.writer, self.stream, self.time = writer, stream, time
         self.puts: List[Put] = []
         self.removes: List[Place] = []

@@ -5,7 +5,8 @@ ghost use Rattle.hk_model.specs.World.Worlds.{outcome_of_batch, outcome_by};
 ghost use Rattle.hk_acting.specs.Telling.{Gives};
 
 use crate::acting::refused;
-use hk_delta::{Fragment, fragment_of};
+use hk_delta::fragment_of;
+use hk_fragment::Fragment;
 use hk_log::Item;
 use hk_model::Told;
 use hk_state::ReplicaState;

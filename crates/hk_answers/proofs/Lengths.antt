@@ -65,3 +65,9 @@ rows_answer_len rows = simp (length-append, len32) (omega arith)
 pub number_answer_len : (n : ℕ) → length (answer_text (Number n)) ≡ 9
 unfolding answer_text
 number_answer_len n = simp (len64) refl
+
+-- of answers
+pub ruleset answer_lengths = (none_len, some_len, rows_answer_len, number_answer_len)
+
+-- of queries
+pub ruleset query_lengths = (get_len, range_len, by_tag_len, count_len)

@@ -194,7 +194,7 @@ pub(crate) fn rows_len(rows: &[(Key, Row)]) -> u64
 }
 
 /// How many bytes an answer that keeps its rules has.
-#[tactic(auto, using(crate::proofs::Lengths::none_len, crate::proofs::Lengths::some_len, crate::proofs::Lengths::rows_answer_len, crate::proofs::Lengths::number_answer_len))]
+#[tactic(auto, using(crate::proofs::Lengths::answer_lengths))]
 pub fn answer_len(answer: &Answer) -> u64
     requires { spec.answer_keeps_rules (answer_seen answer.now) ≡ true }
     ensures len { result ≡ length (spec.answer_text (answer_seen answer.now)) }
@@ -210,7 +210,7 @@ pub fn answer_len(answer: &Answer) -> u64
 }
 
 /// Adds a row's bytes.
-#[tactic(auto, using(std::proofs::Common::append_assoc, hk_frames::proofs::Prefix::kept_all, hk_frames::proofs::Prefix::kept_before, hk_frames::proofs::Prefix::kept_both), unfolding(crate::specs::Answers::row_text))]
+#[tactic(auto, using(hk_frames::proofs::Put::all), unfolding(crate::specs::Answers::row_text))]
 pub fn put_row(out: &mut Vec<u8>, row: &Row) -> Result<(), AllocError>
     ensures ok { OnOk result (out.new.items ≡ out.old.items ++ spec.row_text row.now) }
     ensures kept { OnErr result (take (length out.old.items) out.new.items ≡ out.old.items) }
@@ -219,7 +219,7 @@ pub fn put_row(out: &mut Vec<u8>, row: &Row) -> Result<(), AllocError>
     put_body(out, row.body())
 }
 
-#[tactic(auto, using(std::proofs::Common::append_assoc, hk_frames::proofs::Prefix::kept_all, hk_frames::proofs::Prefix::kept_before, hk_frames::proofs::Prefix::kept_both), unfolding(crate::specs::Answers::keyed_text))]
+#[tactic(auto, using(hk_frames::proofs::Put::all), unfolding(crate::specs::Answers::keyed_text))]
 fn put_keyed(out: &mut Vec<u8>, key: Key, row: &Row) -> Result<(), AllocError>
     ensures ok { OnOk result (out.new.items ≡ out.old.items ++ spec.keyed_text (key, row.now)) }
     ensures kept { OnErr result (take (length out.old.items) out.new.items ≡ out.old.items) }
@@ -230,7 +230,7 @@ fn put_keyed(out: &mut Vec<u8>, key: Key, row: &Row) -> Result<(), AllocError>
 
 /// Adds rows from the one of this number on: all that are left, or as many as have more than so many bytes. Returns the
 /// number of the next row, which is how many rows there are where none is left. Cost: O(n), n bytes added.
-#[tactic(auto, using(std::proofs::Common::append_assoc, hk_frames::proofs::Prefix::kept_all, hk_frames::proofs::Prefix::kept_before, hk_frames::proofs::Prefix::kept_both))]
+#[tactic(auto, using(hk_frames::proofs::Put::all))]
 pub fn put_rows_from(
     out: &mut Vec<u8>,
     rows: &[(Key, Row)],
@@ -277,7 +277,7 @@ pub fn row_count(answer: &Answer) -> usize
 
 /// Adds what an answer's bytes have before its rows: the kind, and how many rows there are; all of an answer that is none of
 /// rows.
-#[tactic(auto, using(std::proofs::Common::append_assoc, hk_frames::proofs::Prefix::kept_all, hk_frames::proofs::Prefix::kept_before, hk_frames::proofs::Prefix::kept_both), unfolding(crate::specs::Answers::answer_text, crate::specs::Pieces::answer_front))]
+#[tactic(auto, using(hk_frames::proofs::Put::all), unfolding(crate::specs::Answers::answer_text, crate::specs::Pieces::answer_front))]
 pub fn put_answer_front(out: &mut Vec<u8>, answer: &Answer) -> Result<(), AllocError>
     requires { spec.answer_keeps_rules (answer_seen answer.now) ≡ true }
     ensures ok { OnOk result (out.new.items ≡ out.old.items ++ answer_front (answer_seen answer.now)) }
@@ -325,7 +325,7 @@ pub fn put_answer_rows(
 }
 
 /// Adds an answer's bytes.
-#[tactic(auto, using(hk_frames::proofs::Prefix::kept_before, hk_frames::proofs::Prefix::kept_both))]
+#[tactic(auto, using(hk_frames::proofs::Put::all))]
 pub fn put_answer(out: &mut Vec<u8>, answer: &Answer) -> Result<(), AllocError>
     requires { spec.answer_keeps_rules (answer_seen answer.now) ≡ true }
     ensures ok { OnOk result (out.new.items ≡ out.old.items ++ spec.answer_text (answer_seen answer.now)) }

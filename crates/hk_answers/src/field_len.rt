@@ -9,7 +9,7 @@ pub fn number_len(number: u64) -> u64
     ensures len { result ≡ 8 }
     ensures fits { number < 2 ^ 64 }
 {
-    let _known = number;
+    let _in_range = number;
     8
 }
 

@@ -180,7 +180,7 @@ fn short_len(number: u16) -> u64
     ensures len { result ≡ 2 }
     ensures fits { number < 2 ^ 16 }
 {
-    let _known = number;
+    let _in_range = number;
     2
 }
 
@@ -248,7 +248,7 @@ pub fn tables_len(tables: &[Table]) -> u64
 // ---- writing
 
 /// Adds a metric.
-#[tactic(auto, using(std::proofs::Common::append_assoc, hk_frames::proofs::Prefix::kept_all, hk_frames::proofs::Prefix::kept_before, hk_frames::proofs::Prefix::kept_both), unfolding(crate::specs::Metrics::metric_text))]
+#[tactic(auto, using(hk_frames::proofs::Put::all), unfolding(crate::specs::Metrics::metric_text))]
 fn put_metric(out: &mut Vec<u8>, metric: Metric) -> Result<(), AllocError>
     ensures ok { OnOk result (out.new.items ≡ out.old.items ++ spec.metric_text metric) }
     ensures kept { OnErr result (take (length out.old.items) out.new.items ≡ out.old.items) }
@@ -259,7 +259,7 @@ fn put_metric(out: &mut Vec<u8>, metric: Metric) -> Result<(), AllocError>
 }
 
 /// Adds metrics behind their count.
-#[tactic(auto, using(std::proofs::Common::append_assoc, hk_frames::proofs::Prefix::kept_all, hk_frames::proofs::Prefix::kept_before, hk_frames::proofs::Prefix::kept_both))]
+#[tactic(auto, using(hk_frames::proofs::Put::all))]
 pub fn put_metrics(out: &mut Vec<u8>, metrics: &[Metric]) -> Result<(), AllocError>
     requires { spec.metrics_keep_rules metrics.now ≡ true }
     ensures ok { OnOk result (out.new.items ≡ out.old.items ++ spec.metrics_text metrics.now) }
@@ -273,7 +273,7 @@ pub fn put_metrics(out: &mut Vec<u8>, metrics: &[Metric]) -> Result<(), AllocErr
 }
 
 /// Adds tables behind their count.
-#[tactic(auto, using(std::proofs::Common::append_assoc, hk_frames::proofs::Prefix::kept_all, hk_frames::proofs::Prefix::kept_before, hk_frames::proofs::Prefix::kept_both))]
+#[tactic(auto, using(hk_frames::proofs::Put::all))]
 pub fn put_tables(out: &mut Vec<u8>, tables: &[Table]) -> Result<(), AllocError>
     requires { spec.tables_keep_rules tables.now ≡ true }
     ensures ok { OnOk result (out.new.items ≡ out.old.items ++ spec.tables_text tables.now) }

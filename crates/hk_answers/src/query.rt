@@ -10,9 +10,10 @@ use hk_model::Query;
 use hk_types::{FormFault, Key, Table, Tag};
 use std::alloc::AllocError;
 
-/// The kind bytes.
-const GET: u8 = 1;
+/// The kind byte of a query for one row.
+pub const GET: u8 = 1;
 
+/// Those of the others, which go over rows.
 const RANGE: u8 = 2;
 
 const BY_TAG: u8 = 3;
@@ -59,7 +60,7 @@ pub fn read_query(cursor: &mut Cursor) -> Result<Query, FormFault>
 }
 
 /// How many bytes a query has.
-#[tactic(auto, using(crate::proofs::Lengths::get_len, crate::proofs::Lengths::range_len, crate::proofs::Lengths::by_tag_len, crate::proofs::Lengths::count_len))]
+#[tactic(auto, using(crate::proofs::Lengths::query_lengths))]
 pub fn query_len(query: &Query) -> u64
     ensures len { result ≡ length (spec.query_text query.now) }
     ensures most { result ≤ 19 }
@@ -76,7 +77,7 @@ pub fn query_len(query: &Query) -> u64
 }
 
 /// Adds a query's bytes.
-#[tactic(auto, using(std::proofs::Common::append_assoc, hk_frames::proofs::Prefix::kept_all, hk_frames::proofs::Prefix::kept_before, hk_frames::proofs::Prefix::kept_both), unfolding(crate::specs::Queries::query_text))]
+#[tactic(auto, using(hk_frames::proofs::Put::all), unfolding(crate::specs::Queries::query_text))]
 pub fn put_query(out: &mut Vec<u8>, query: &Query) -> Result<(), AllocError>
     ensures ok { OnOk result (out.new.items ≡ out.old.items ++ spec.query_text query.now) }
     ensures kept { OnErr result (take (length out.old.items) out.new.items ≡ out.old.items) }

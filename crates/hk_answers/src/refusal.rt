@@ -201,7 +201,7 @@ fn pair(refusal: Refusal) -> (u64, u64)
 }
 
 /// Adds a refusal's bytes.
-#[tactic(auto, using(std::proofs::Common::append_assoc, hk_frames::proofs::Prefix::kept_all, hk_frames::proofs::Prefix::kept_before, hk_frames::proofs::Prefix::kept_both), unfolding(crate::specs::Refusals::refusal_text))]
+#[tactic(auto, using(hk_frames::proofs::Put::all), unfolding(crate::specs::Refusals::refusal_text))]
 pub fn put_refusal(out: &mut Vec<u8>, refusal: &Refusal) -> Result<(), AllocError>
     ensures ok { OnOk result (out.new.items ≡ out.old.items ++ spec.refusal_text refusal.now) }
     ensures kept { OnErr result (take (length out.old.items) out.new.items ≡ out.old.items) }

@@ -229,7 +229,7 @@ fn put_flag(out: &mut Vec<u8>, yes: bool) -> Result<(), AllocError>
 }
 
 /// Adds what a page's bytes have before its rows: whether more follow, and how many rows there are.
-#[tactic(auto, using(std::proofs::Common::append_assoc, hk_frames::proofs::Prefix::kept_all, hk_frames::proofs::Prefix::kept_before, hk_frames::proofs::Prefix::kept_both))]
+#[tactic(auto, using(hk_frames::proofs::Put::all))]
 pub fn put_page_front(out: &mut Vec<u8>, page: &Page) -> Result<(), AllocError>
     requires { spec.page_keeps_rules (page_seen page.now) ≡ true }
     ensures ok { OnOk result (out.new.items ≡ out.old.items ++ page_front (page_seen page.now)) }
@@ -240,7 +240,7 @@ pub fn put_page_front(out: &mut Vec<u8>, page: &Page) -> Result<(), AllocError>
 }
 
 /// Adds a page's bytes.
-#[tactic(auto, using(std::proofs::Common::append_assoc, hk_frames::proofs::Prefix::kept_all, hk_frames::proofs::Prefix::kept_before, hk_frames::proofs::Prefix::kept_both))]
+#[tactic(auto, using(hk_frames::proofs::Put::all))]
 pub fn put_page(out: &mut Vec<u8>, page: &Page) -> Result<(), AllocError>
     requires { spec.page_keeps_rules (page_seen page.now) ≡ true }
     ensures ok { OnOk result (out.new.items ≡ out.old.items ++ spec.page_text (page_seen page.now)) }
@@ -251,7 +251,7 @@ pub fn put_page(out: &mut Vec<u8>, page: &Page) -> Result<(), AllocError>
 }
 
 /// Adds the report of a stream.
-#[tactic(auto, using(std::proofs::Common::append_assoc, hk_frames::proofs::Prefix::kept_all, hk_frames::proofs::Prefix::kept_before, hk_frames::proofs::Prefix::kept_both), unfolding(crate::specs::Told::told_text))]
+#[tactic(auto, using(hk_frames::proofs::Put::all), unfolding(crate::specs::Told::told_text))]
 fn put_told(out: &mut Vec<u8>, told: StreamTold) -> Result<(), AllocError>
     ensures ok { OnOk result (out.new.items ≡ out.old.items ++ spec.told_text told) }
     ensures kept { OnErr result (take (length out.old.items) out.new.items ≡ out.old.items) }
@@ -263,7 +263,7 @@ fn put_told(out: &mut Vec<u8>, told: StreamTold) -> Result<(), AllocError>
 }
 
 /// Adds the reports of the streams behind their number.
-#[tactic(auto, using(std::proofs::Common::append_assoc, hk_frames::proofs::Prefix::kept_all, hk_frames::proofs::Prefix::kept_before, hk_frames::proofs::Prefix::kept_both))]
+#[tactic(auto, using(hk_frames::proofs::Put::all))]
 fn put_told_streams(out: &mut Vec<u8>, streams: &[StreamTold]) -> Result<(), AllocError>
     requires { length streams.now ≤ 64 }
     ensures ok { OnOk result (out.new.items ≡ out.old.items ++ spec.told_streams_text streams.now) }
@@ -277,7 +277,7 @@ fn put_told_streams(out: &mut Vec<u8>, streams: &[StreamTold]) -> Result<(), All
 }
 
 /// Adds the time of an active pin, or that there is none.
-#[tactic(auto, using(std::proofs::Common::append_assoc, hk_frames::proofs::Prefix::kept_all, hk_frames::proofs::Prefix::kept_before, hk_frames::proofs::Prefix::kept_both))]
+#[tactic(auto, using(hk_frames::proofs::Put::all))]
 fn put_hold(out: &mut Vec<u8>, hold: Option<Time>) -> Result<(), AllocError>
     ensures ok { OnOk result (out.new.items ≡ out.old.items ++ spec.hold_text hold) }
     ensures kept { OnErr result (take (length out.old.items) out.new.items ≡ out.old.items) }
@@ -295,7 +295,7 @@ fn put_hold(out: &mut Vec<u8>, hold: Option<Time>) -> Result<(), AllocError>
 }
 
 /// Adds the report of streams.
-#[tactic(auto, using(std::proofs::Common::append_assoc, hk_frames::proofs::Prefix::kept_all, hk_frames::proofs::Prefix::kept_before, hk_frames::proofs::Prefix::kept_both), unfolding(crate::specs::Told::streams_text))]
+#[tactic(auto, using(hk_frames::proofs::Put::all), unfolding(crate::specs::Told::streams_text))]
 pub fn put_streams_told(out: &mut Vec<u8>, told: &StreamsTold) -> Result<(), AllocError>
     requires { spec.streams_keep_rules (streams_seen told.now) ≡ true }
     ensures ok { OnOk result (out.new.items ≡ out.old.items ++ spec.streams_text (streams_seen told.now)) }

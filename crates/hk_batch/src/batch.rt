@@ -5,7 +5,8 @@ ghost use Rattle.hk_batch.specs.Pieces.{AreGathered, piece_of};
 ghost use Rattle.hk_delta.specs.Gathers.{Gathers, GathersOf};
 ghost use Rattle.hk_delta.specs.Unions.{IsGathered};
 
-use hk_delta::{Fragment, fragment_of, union};
+use hk_delta::{fragment_of, union};
+use hk_fragment::Fragment;
 use hk_log::Item;
 use hk_types::{Config, Refusal};
 use std::alloc::Global;

@@ -1,5 +1,5 @@
 -- The versions that are looked for by time.
-use Rattle.std.proofs.Common.{◌≡◌, refl, sym, ap, ◌∙◌, subst, ℕ, Bool, true, false, cond, ◌||◌, ◌&&◌, T, Option, Some, None, List, [], ◌∷◌, ◌++◌, map, filter, nat_cmp, nat_le, is_eq, is_lt, Ordering, Less, Equal, Greater, ◌⊎◌, inl, inr, Bor, option_map, Result, Ok, Err, arith}
+use Rattle.std.proofs.Common.{◌≡◌, refl, sym, ap, ◌∙◌, subst, ℕ, Bool, true, false, cond, ◌||◌, ◌&&◌, T, Option, Some, None, List, [], ◌∷◌, ◌++◌, map, filter, nat_cmp, nat_le, nat_lt, ◌<◌, is_eq, is_lt, Ordering, Less, Equal, Greater, ◌⊎◌, inl, inr, Bor, option_map, Result, Ok, Err, arith}
 use Rattle.std.proofs.lemmas.Bool.Decides.{nat_tests}
 use Rattle.std.proofs.lemmas.List.{append_assoc, append-nil, map_push}
 use Rattle.std.proofs.lemmas.List.Elements.{filter-append}
@@ -23,8 +23,9 @@ use Rattle.hk_model.proofs.Replica.Visible.{T_both, any_where}
 use Rattle.hk_model.proofs.Replica.Listed.{map_In_pair}
 use Rattle.hk_model.specs.Replica.Content.{ended_by}
 use Rattle.hk_index.specs.declared.span.Span.{Span}
-use Rattle.hk_index.specs.Timed.{StillThere, timed_cmp, has_row, is_among as is_among_rows, is_in_span, ListsRows}
-use Rattle.hk_facts.specs.Chains.{ChainValue}
+use Rattle.hk_index.specs.Timed.{StillThere, timed_cmp, has_row, is_among as is_among_rows, is_in_span, is_until, ListsRows}
+use Rattle.hk_facts.specs.Chains.{ChainValue, is_after}
+use Rattle.hk_facts.specs.Turns.{AreOver, IsOver}
 use Rattle.hk_facts.specs.Facts.{died_of, if_known, row_of}
 use Rattle.hk_chains.specs.declared.stated.Sought.{Sought}
 use Rattle.hk_chains.specs.Drops.{is_among}
@@ -32,7 +33,7 @@ use Rattle.hk_chains.specs.Facts.{FactsValue, IsChainAt, IsUnknown, known_at}
 use Rattle.hk_chains.specs.Indexed.{AreStated, born_at, died_at, is_stated, passes_at}
 use Rattle.hk_chains.specs.Stated.{IsStated, is_sought, sought_among, sought_at, sought_in, sought_known}
 use Rattle.hk_chains.specs.Versions.{AreVersions, AreVersionsOf, borrowed, versions_of_row, versions_of_rows}
-use Rattle.hk_chains.proofs.WalkedChains.{chain_done, whole_chain}
+use Rattle.hk_chains.proofs.WalkedChains.{born_after, chain_done, found_above, itself, whole_chain}
 use Rattle.hk_chains.proofs.WalkedRows.{find_in_rows, found_are, rows_sorted}
 use Rattle.hk_facts.proofs.StoredTrees.{and_T}
 use Rattle.hk_chains.proofs.StoredFacts.{known_end, known_row}
@@ -349,6 +350,47 @@ one_step row sought found new v known is old rest step of_row test more =
     by : (b : Bool) → cond b ((v, known) ∷ []) [] ++ sought_in row sought rest ≡ cond b ((version_of row v.born, known) ∷ sought_in row sought rest) (sought_in row sought rest)
     by true = ap (λ (k : RowKey). (version_of k v.born, known) ∷ sought_in row sought rest) of_row
     by false = refl
+
+-- versions that are over before a span aren't looked for
+is_out : (sought : Sought) (born : ℕ) (v : VersionValue) → IsOver sought.span.from born (Some v) → is_sought sought born v ≡ false
+is_out sought born v over = (λ i. by_birth sought.births (is_some v.row) i || by_end v.died refl i)
+  where
+    before : (from t : ℕ) → t < from → nat_le from t ≡ false
+    before from t lt = grind (arith, nat_tests)
+
+    out : (t : ℕ) → t < sought.span.from → is_in_span sought.span t ≡ false
+    out t lt = ap (λ b. b && is_until sought.span.until t) (before sought.span.from t lt)
+
+    by_birth : (b s : Bool) → (b && (s && is_in_span sought.span born)) ≡ false
+    by_birth false s = refl
+    by_birth true false = refl
+    by_birth true true = out born over.before
+
+    by_end : (d : Option ℕ) → v.died ≡ d → passes_at (is_in_span sought.span) d ≡ false
+    by_end None is = refl
+    by_end (Some d) is = out d (over.ended d is)
+
+-- what is looked for among the versions behind those that are over is what is looked for among all
+passed_over : (row : RowKey) (sought : Sought) (until : Option ℕ) (es : List Born) → ((born : ℕ) (v : VersionValue) → find nat_cmp born es ≡ Some v → is_after until born ≡ false → is_sought sought born v ≡ false) → T (is_sorted nat_cmp es) → sought_in row sought (born_after until es) ≡ sought_in row sought es
+passed_over row sought until [] over sorted = refl
+passed_over row sought until (e ∷ es) over sorted = by (passed_over row sought until es rest both.1) (is_after until e.0) refl
+  where
+    both : T (below_all nat_cmp e.0 es) × T (is_sorted nat_cmp es)
+    both = T_both (below_all nat_cmp e.0 es) (is_sorted nat_cmp es) sorted
+
+    rest : (born : ℕ) (v : VersionValue) → find nat_cmp born es ≡ Some v → is_after until born ≡ false → is_sought sought born v ≡ false
+    rest born v is after = over born v (ap (λ t. cond t (Some e.1) (find nat_cmp born es)) (apart (found_above e.0 born v es both.0 is)) ∙ is) after
+      where
+        apart : nat_lt e.0 born ≡ true → eq_by_cmp nat_cmp born e.0 ≡ false
+        apart lt = grind (arith, nat_tests)
+
+    by : sought_in row sought (born_after until es) ≡ sought_in row sought es → (t : Bool) → is_after until e.0 ≡ t → sought_in row sought (cond t (e ∷ born_after until es) (born_after until es)) ≡ sought_in row sought (e ∷ es)
+    by others true is = ap (λ l. cond (is_sought sought e.0 e.1) ((version_of row e.0, e.1) ∷ l) l) others
+    by others false is =
+        others ∙ sym (ap (λ t. cond t ((version_of row e.0, e.1) ∷ sought_in row sought es) (sought_in row sought es)) (over e.0 e.1 (ap (λ t. cond t (Some e.1) (find nat_cmp e.0 es)) (itself e.0)) is))
+
+pub all_passed_over : (row : RowKey) (sought : Sought) (c : ChainValue) (until : Option ℕ) → AreOver c sought.span.from until → sought_in row sought (born_after until (finmap.entries c)) ≡ sought_in row sought (finmap.entries c)
+all_passed_over row sought c until over = passed_over row sought until (finmap.entries c) (λ born v is after. is_out sought born v (subst (IsOver sought.span.from born) (finmap.get-entries c born ∙ is) (over born (ap is_some (finmap.get-entries c born ∙ is)) after))) (finmap.entries_sorted c)
 
 pub no_more : (row : RowKey) (sought : Sought) (found : List Known) (rest : List Born) → rest ≡ [] → found ++ sought_in row sought rest ≡ found
 no_more row sought found rest is = ap (λ l. found ++ sought_in row sought l) is ∙ append-nil found

@@ -64,7 +64,7 @@ same_cmp a b e = finmap.nat_cmp-IsAntisymmetric a b ((Equal-is (nat_cmp a b)).0 
 
 -- ---- what is found
 
-found_above : (k b : ℕ) (v : VersionValue) (es : List Born) → T (below_all nat_cmp k es) → find nat_cmp b es ≡ Some v → nat_lt k b ≡ true
+pub found_above : (k b : ℕ) (v : VersionValue) (es : List Born) → T (below_all nat_cmp k es) → find nat_cmp b es ≡ Some v → nat_lt k b ≡ true
 found_above k b v [] below is = cc is
 found_above k b v (e ∷ es) below is = by (found_above k b v es both.1) (eq_by_cmp nat_cmp b e.0) refl is
   where
@@ -82,7 +82,7 @@ some_later b e es s = by (eq_by_cmp nat_cmp b e.0)
     by true = refl
     by false = s
 
-itself : (b : ℕ) → eq_by_cmp nat_cmp b b ≡ true
+pub itself : (b : ℕ) → eq_by_cmp nat_cmp b b ≡ true
 itself b = grind (arith, nat_tests)
 
 none_born : (after : Option ℕ) (es : List Born) → ((b : ℕ) → is_after after b ≡ true → find nat_cmp b es ≡ None) → born_after after es ≡ []

@@ -6,3 +6,4 @@ pub mod Indexed
 pub mod Paging
 pub mod Stated
 pub mod Sweeps
+pub mod Sizes

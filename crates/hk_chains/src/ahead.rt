@@ -11,6 +11,9 @@ const ROWS: usize = 16;
 /// So many versions of a row are touched.
 const VERSIONS: usize = 8;
 
+/// Up to so many slots nothing is touched: a look ahead at a few rows costs more than the waits that it saves.
+const FEW: usize = 64;
+
 /// What a walk comes to next, touched before it comes there. In the order of keys each chain, its list and each body is
 /// somewhere else in memory, so that the walk would wait for one after the other: touched for many rows at once, these waits
 /// go on side by side. The sum of what is read has no meaning; it keeps the compiler from leaving the reads out.
@@ -40,8 +43,11 @@ impl<'a> Ahead<'a> {
         }
     }
 
-    /// A look ahead over all rows.
+    /// A look ahead over all rows, unless they are few.
     pub(crate) fn over(chains: &'a SlotMap<RowKey, Chain>) -> Ahead<'a> {
+        if chains.slot_bound() <= FEW {
+            return Ahead::nowhere();
+        }
         Ahead {
             passes: Some(Passes {
                 chains: chains.iter(),

@@ -5,6 +5,7 @@ ghost use Rattle.std.specs.List.Sorted.{IsStrictlySortedBy};
 ghost use Rattle.hk_types.specs.declared.faults.Refusal.TheVariants.{Memory};
 ghost use Rattle.hk_model.specs.History.Rows.{row_key_cmp};
 ghost use Rattle.hk_index.specs.Timed.{StillThere};
+ghost use Rattle.hk_facts.specs.Turns.{AreOver};
 ghost use Rattle.hk_chains.specs.Indexed.{AreStated};
 ghost use Rattle.hk_chains.specs.Stated.{IsStated, found_in, is_sought, sought_among};
 ghost use Rattle.hk_chains.specs.Versions.{AddsVersions, AreVersionsOf, borrowed};
@@ -41,7 +42,8 @@ impl Sought {
 }
 
 /// The versions that are looked for of some rows, which rise, with what is known of them, in rising order. The only error is out of memory.
-/// Cost: O(r · log n + v · log v), r rows, v versions of theirs, n facts.
+/// Cost: O(r · log n + v · log v), r rows, n facts, v versions of theirs that aren't over before the span; where those of a row aren't in
+/// turn (`Chain::over_before`), all of its versions count.
 pub fn sought_of<'a>(
     alloc: Global,
     chains: &'a Chains,
@@ -61,7 +63,7 @@ pub fn sought_of<'a>(
     Ok(found)
 }
 
-/// Adds the versions of a row that are looked for.
+/// Adds the versions of a row that are looked for. Those of a long chain that are over before the span are passed over.
 fn push_sought<'a>(
     found: &mut Vec<(VersionKey, &'a Version)>,
     row: &RowKey,
@@ -70,12 +72,22 @@ fn push_sought<'a>(
 ) -> Result<(), AllocError>
     ensures { OnOk result (AddsVersions found.old.items found.new.items (found_in row.now sought.now chain.now)) }
 {
-    let mut after = None;
+    let mut after = over_before(chain, sought.span.from);
     while let Some((version, known)) = next_of(row, chain, after) {
         push_if(found, &version, known, sought.has(version.born, known))?;
         after = Some(version.born);
     }
     Ok(())
+}
+
+/// A time up to which all versions of a chain are over before the time with a number, where one is known.
+fn over_before(chain: &Chain, number: u64) -> Option<Time>
+    ensures { AreOver chain.now number result }
+{
+    match Time::new(number) {
+        Ok(time) => chain.over_before(time),
+        Err(_above) => None,
+    }
 }
 
 /// Adds a version, or not.

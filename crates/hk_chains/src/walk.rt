@@ -65,7 +65,8 @@ impl<'a> Iterator for Walk<'a> {
 }
 
 impl Chains {
-    /// A walk over all versions of which anything is known, which looks ahead. It takes no memory.
+    /// A walk over all versions of which anything is known, which looks ahead where there are many.
+    /// It takes no memory.
     /// Cost: O(log k), k keys of all tables.
     pub fn walk(&self) -> Walk<'_>
         ensures { AreVersions self.now result }

@@ -3,10 +3,8 @@ use Rattle.std.specs.Prelude.{ℕ, List, ◌++◌, codes}
 use Rattle.std.specs.Fmt.{decimal}
 use Rattle.hk_cli_fields.specs.Lines.{line_end}
 use Rattle.hk_cli.specs.declared.notice.Notice.{Notice}
-use Rattle.hk_cli.specs.declared.notice.Notice.TheVariants.{Listening, Feeding, Reading, Ended}
+use Rattle.hk_cli.specs.declared.notice.Notice.TheVariants.{Listening, Ended}
 
 abbrev pub notice_line : Notice → List ℕ
 notice_line (Listening port) = codes "listening " ++ decimal port ++ line_end
-notice_line (Feeding port) = codes "feeding " ++ decimal port ++ line_end
-notice_line (Reading port) = codes "reading " ++ decimal port ++ line_end
 notice_line (Ended number) = codes "ended " ++ decimal number ++ line_end

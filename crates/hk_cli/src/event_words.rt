@@ -2,7 +2,7 @@
 
 use hk_cli_events::LineKind;
 use hk_cli_reasons::{Place, put_known};
-use hk_net::{Speech, Subject};
+use hk_host::{Speech, Subject};
 use std::alloc::{AllocError, Global};
 
 /// The refusal of a change that conflicts.

@@ -51,11 +51,6 @@ impl<'c, C: Clock> Heads<'c, C> {
         self.clock
     }
 
-    /// Whether lines have the time.
-    pub(crate) fn are_dated(&self) -> bool {
-        self.form != LineForm::Words
-    }
-
     /// Whether lines are JSON.
     pub(crate) fn are_json(&self) -> bool {
         self.form == LineForm::Json
@@ -98,14 +93,12 @@ pub(crate) fn tell_source<C: Clock, W: Write, E: Write>(
     note_text(log, output);
 }
 
-/// How a node's lines stand: the words alone, as `node` behind the time and more, or as JSON.
+/// How a node's lines stand: behind the time and more, or as JSON.
 fn form_of(stay: &Stay<'_>) -> LineForm {
     if stay.in_json {
         LineForm::Json
-    } else if stay.start.is_some() {
-        LineForm::Dated
     } else {
-        LineForm::Words
+        LineForm::Dated
     }
 }
 

@@ -3,15 +3,12 @@
 use crate::event_words::{ended_words, known_words, more_words, refused_words, speech_word};
 use crate::failures::Failures;
 use crate::head::{Heads, LineLog};
-use crate::notice::Notice;
 use hk_cli_calls::Level;
-use hk_cli_commands::Output;
 use hk_cli_events::{LineKind, LineLimit};
 use hk_cli_reasons::Place;
-use hk_net::{LinkEvent, Speech, Subject, Watch};
-use hk_node::{NodeName, ReaderSeat};
-use hk_session::Ended;
-use hk_types::Time;
+use hk_host::{LinkEvent, Speech, Subject};
+use hk_net::Watch;
+use hk_session_parts::Ended;
 use log::kv::display;
 use log::{error, info, warn};
 use std::alloc::Global;
@@ -26,39 +23,6 @@ const NO_DOOR: usize = usize::MAX;
 /// The peer of a line that is of none.
 const NOBODY: Option<SocketAddr> = None;
 
-/// A seat that reads the node's front, and after how many changes it does.
-#[derive(Drop)]
-pub(crate) struct Reports<J: NodeName> {
-    seat: ReaderSeat<J>,
-    every: u64,
-    /// How many changes took effect.
-    changes: u64,
-    /// How many of them were not reported yet.
-    since: u64,
-}
-
-impl<J: NodeName> Reports<J> {
-    pub(crate) fn new(seat: ReaderSeat<J>, every: u64) -> Reports<J> {
-        Reports {
-            seat,
-            every,
-            changes: 0,
-            since: 0,
-        }
-    }
-
-    /// Counts a change; returns whether it is time for a report.
-    fn count(&mut self) -> bool {
-        self.changes = self.changes.saturating_add(1);
-        self.since = self.since.saturating_add(1);
-        if self.since < self.every {
-            return false;
-        }
-        self.since = 0;
-        true
-    }
-}
-
 /// A connection's number, its door, and the address of its peer, where it has one.
 #[derive(Clone, Copy)]
 struct Peer {
@@ -70,17 +34,13 @@ struct Peer {
 /// Prints what happens to the connections of a node, at most 10 lines of one kind and one door a second, and of the others how many they
 /// were. Connections are counted from 1 as they open.
 #[derive(Drop)]
-pub(crate) struct LinkReporter<'o, 'a, W: Write, E: Write, V: Write, J: NodeName, C: Clock> {
+pub(crate) struct LinkReporter<'o, V: Write, C: Clock> {
     alloc: Global,
-    /// Where a line for each end goes, unless lines have the time.
-    output: &'o mut Output<'a, W, E>,
-    prints_ends: bool,
     log: LineLog<'o, C, V>,
     clock: &'o C,
     /// The clock, in milliseconds.
     now: u64,
     level: Level,
-    reports: Option<Reports<J>>,
     failures: Failures,
     limit: LineLimit,
     /// How many connections opened.
@@ -89,32 +49,19 @@ pub(crate) struct LinkReporter<'o, 'a, W: Write, E: Write, V: Write, J: NodeName
     links: HashMap<usize, Peer>,
 }
 
-impl<'o, 'a, W: Write, E: Write, V: Write, J: NodeName, C: Clock> LinkReporter<
-    'o,
-    'a,
-    W,
-    E,
-    V,
-    J,
-    C,
-> {
+impl<'o, V: Write, C: Clock> LinkReporter<'o, V, C> {
     pub(crate) fn new(
         alloc: Global,
-        output: &'o mut Output<'a, W, E>,
         heads: &Heads<'o, C>,
         words: V,
         level: Level,
-        reports: Option<Reports<J>>,
-    ) -> LinkReporter<'o, 'a, W, E, V, J, C> {
+    ) -> LinkReporter<'o, V, C> {
         LinkReporter {
             alloc,
-            output,
-            prints_ends: !heads.are_dated(),
             log: heads.log_to(words),
             clock: heads.clock(),
             now: 0,
             level,
-            reports,
             failures: Failures::none(),
             limit: LineLimit::new(alloc),
             count: 0,
@@ -200,29 +147,6 @@ impl<'o, 'a, W: Write, E: Write, V: Write, J: NodeName, C: Clock> LinkReporter<
         } = self.peer(place);
         if self.level == Level::Changes && self.admits(door, "done", 0) {
             info!(self.log; peer = address, event = "done", link:% = link, operations:% = ops; "link {link}: done {ops}");
-        }
-    }
-
-    /// Prints the front after so many changes.
-    fn note_front(&mut self, changes: u64, horizon: Time, readable: Time) {
-        if self.admits(NO_DOOR, "front", 0) {
-            info!(self.log; peer = NOBODY, event = "front", changes:% = changes, horizon:% = horizon, readable:% = readable;
-                "after {changes} changes: front {horizon} {readable}");
-        }
-    }
-
-    /// Counts a change, and prints the front where it is time for that.
-    fn report_change(&mut self) {
-        let Some(reports) = &mut self.reports else {
-            return;
-        };
-        if !reports.count() {
-            return;
-        }
-        let changes = reports.changes;
-        match reports.seat.front() {
-            Ok(front) => self.note_front(changes, front.horizon, front.readable),
-            Err(why) => self.tell_node("front", "front", why.number()),
         }
     }
 
@@ -315,7 +239,7 @@ impl<'o, 'a, W: Write, E: Write, V: Write, J: NodeName, C: Clock> LinkReporter<
         }
     }
 
-    /// Prints how the connection at a place ended; where lines have the time, in words alone.
+    /// Prints how the connection at a place ended.
     fn ended(&mut self, place: usize, ended: Ended, speech: Option<Speech>) {
         let number = ended.number();
         if number == 0 {
@@ -324,16 +248,10 @@ impl<'o, 'a, W: Write, E: Write, V: Write, J: NodeName, C: Clock> LinkReporter<
             self.tell_ended(place, number, speech);
         }
         self.links.remove(&place);
-        if self.prints_ends {
-            // Where the line can't be printed the node serves on.
-            let _printed = self.output.print(&Notice::Ended(number));
-            let _written = self.output.flush();
-        }
     }
 }
 
-impl<W: Write, E: Write, V: Write, J: NodeName, C: Clock> Watch
-    for LinkReporter<'_, '_, W, E, V, J, C> {
+impl<V: Write, C: Clock> Watch for LinkReporter<'_, V, C> {
     fn told(&mut self, place: usize, event: LinkEvent) {
         self.look_at_clock();
         self.tell_due();
@@ -343,10 +261,7 @@ impl<W: Write, E: Write, V: Write, J: NodeName, C: Clock> Watch
                 self.note_opened(place);
             }
             LinkEvent::Refused { number, about } => self.tell_refused(place, number, about),
-            LinkEvent::Changed(ops) => {
-                self.note_change(place, ops);
-                self.report_change();
-            }
+            LinkEvent::Changed(ops) => self.note_change(place, ops),
             LinkEvent::Ended { ended, speech } => self.ended(place, ended, speech),
             LinkEvent::NotAccepted => self.not_accepted(),
             LinkEvent::NotStarted => self.tell_node("not_started", "not started", 90),

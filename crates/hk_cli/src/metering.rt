@@ -1,7 +1,8 @@
 //! What a node counts of its connections, from its start on.
 
+use hk_budgets::PartsBudget;
 use hk_cli_calls::VERSION;
-use hk_net::{Meters, PartsBudget};
+use hk_meters::Meters;
 use libc::types::rlimit;
 use std::alloc::{AllocError, Global};
 use std::fs::{File, Files};

@@ -10,10 +10,6 @@ use std::alloc::{AllocError, Global};
 pub(crate) enum Notice {
     /// Connections can be opened to this port.
     Listening(u16),
-    /// Connections that send items and ask can be opened to this port.
-    Feeding(u16),
-    /// Read-only connections can be opened to this port.
-    Reading(u16),
     /// A connection ended, with this number.
     Ended(u8),
 }
@@ -24,8 +20,6 @@ impl Printed for Notice {
     fn put_lines(&self, _alloc: Global, out: &mut String) -> Result<(), AllocError> {
         match self {
             Notice::Listening(port) => writeln!(out, "listening {port}"),
-            Notice::Feeding(port) => writeln!(out, "feeding {port}"),
-            Notice::Reading(port) => writeln!(out, "reading {port}"),
             Notice::Ended(number) => writeln!(out, "ended {number}"),
         }
     }

@@ -4,13 +4,14 @@ ghost use Rattle.std.specs.Prelude.{◌≡◌, ◌≤◌, IfOk};
 
 use crate::listening::port_of;
 use crate::notice::Notice;
+use hk_budgets::PartsBudget;
 use hk_cli_calls::IS_PROVED;
 use hk_cli_commands::Output;
 use hk_cli_input::Stop;
 use hk_cli_reasons::Place;
-use hk_net::{NetFault, PartsBudget, serve_links};
+use hk_host::{NetFault, serve_links};
 use hk_node::{NewList, Node, NodeName, ReaderSeat, start};
-use hk_session::Ended;
+use hk_session_parts::Ended;
 use hk_types::{Config, Links, Refusal};
 use std::alloc::{AllocError, Global};
 use std::io::Write;

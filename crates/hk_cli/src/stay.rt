@@ -1,24 +1,26 @@
-//! A long-running node: the command `node`, and `serve --stay`.
+//! A long-running node: the command `node`.
 
 ghost use Rattle.std.specs.Prelude.{◌≡◌, ◌<◌, ◌≤◌};
 ghost use Rattle.std.specs.Thread.{IsSend, IsSync};
 
 use crate::head::{Heads, heads_of, note_text};
-use crate::link_reporter::{LinkReporter, Reports};
+use crate::link_reporter::LinkReporter;
 use crate::listening::{many_listener_of, most_files, port_of, socket_listener};
 use crate::memory::share_of_memory;
 use crate::metering::meters_of;
-use crate::notice::Notice;
 use crate::outcome::Begun;
 use crate::serve::{UNPROVED, budget_of, new_list, stop_of, tell_unproved};
 use crate::starting::begin;
-use crate::texts::{Backlog, MOST_WAITING, Target, Text, TextWriter, write_texts};
+use crate::texts::{Backlog, MOST_WAITING, Text, TextWriter, write_texts};
 use crossbeam_channel::{Sender, bounded};
+use hk_budgets::PartsBudget;
 use hk_cli_calls::{IS_PROVED, Level, OtherPort, OutputForm, PartsLimit, Start, Stay};
 use hk_cli_commands::Output;
 use hk_cli_events::WrappedWords;
 use hk_cli_input::Stop;
-use hk_net::{Door, Limits, Meters, NetFault, PartsBudget, serve_forever};
+use hk_host::NetFault;
+use hk_meters::Meters;
+use hk_net::{Door, Limits, serve_forever};
 use hk_node::{NewList, Node, NodeName, ReaderSeat, start};
 use hk_types::{Config, Refusal};
 use log::warn;
@@ -33,7 +35,7 @@ use std::sync::Wait;
 use std::thread::Threads;
 use std::{mem, thread};
 
-/// How many workers give short answers at most: a node has 64 seats, one for each worker, and one to report its front.
+/// How many workers give short answers at most: a node has 64 seats, one for each worker.
 const MOST_WORKERS: usize = 31;
 
 /// How many files a node has open beside its connections: at most for its standard streams and listeners, and for each worker for short
@@ -41,9 +43,6 @@ const MOST_WORKERS: usize = 31;
 const OTHER_FILES: u64 = 12;
 
 const FILES_A_WORKER: u64 = 4;
-
-/// How many bytes all connections keep at most where messages of version 1 alone are answered.
-const PLAIN_BYTES: u64 = 1_073_741_824;
 
 /// The line where a node that needs data can have none.
 const NO_DATA: &str =
@@ -158,18 +157,13 @@ impl Budgets {
     }
 }
 
-/// Whether each change of a connection is reported.
-fn are_changes_told(stay: &Stay<'_>) -> bool {
-    stay.report_changes > 0 || stay.level == Level::Changes
-}
-
 /// Adds a door, of whose connections each change is reported too where that is asked for.
 fn add_door<'d, J: NodeName, N: Wait + Drop>(
     stay: &Stay<'_>,
     door: Door<'d, J, N>,
     doors: &mut Vec<Door<'d, J, N>>,
 ) -> Result<(), AllocError> {
-    let door = if are_changes_told(stay) {
+    let door = if stay.level == Level::Changes {
         door.with_changes()
     } else {
         door
@@ -264,13 +258,12 @@ fn workers_of<R: Threads>(rt: &R, stay: &Stay<'_>) -> usize
     count.clamp(1, MOST_WORKERS)
 }
 
-/// How many seats a node has: one for each of its workers, and one to report its front.
-fn seats_wanted(workers: usize, stay: &Stay<'_>) -> usize
+/// How many seats a node has: one for each of its workers.
+fn seats_wanted(workers: usize) -> usize
     requires { (0 < workers) × (workers ≤ 31) }
     ensures { (0 < result) × (result ≤ 64) }
 {
-    let reporter = if stay.report_changes == 0 { 0 } else { 1 };
-    workers + workers + reporter
+    workers + workers
 }
 
 /// What a node found as it opened.
@@ -278,24 +271,8 @@ fn seats_wanted(workers: usize, stay: &Stay<'_>) -> usize
 struct Opened {
     /// Its port, which the system may have chosen.
     port: u16,
-    /// How many bytes all connections keep at most for messages of version 2, where these are answered.
-    parts_bytes: Option<u64>,
-}
-
-/// Prints that connections can be opened, and to which ports: a line for each.
-fn tell_ports<W: Write, E: Write>(
-    stay: &Stay<'_>,
-    port: u16,
-    output: &mut Output<'_, W, E>,
-) -> Result<(), Stop> {
-    output.print(&Notice::Listening(port))?;
-    if let Some(feeding) = stay.feeding {
-        output.print(&Notice::Feeding(feeding.port))?;
-    }
-    if let Some(reading) = stay.reading {
-        output.print(&Notice::Reading(reading.port))?;
-    }
-    output.flush()
+    /// How many bytes all connections keep at most.
+    parts_bytes: u64,
 }
 
 /// Adds what a further port is for, its address, and for how many connections it is.
@@ -331,7 +308,7 @@ fn put_opened(
     } else {
         "not guarded"
     };
-    let bytes = opened.parts_bytes.unwrap_or(0);
+    let bytes = opened.parts_bytes;
     writeln!(
         out,
         "; log {log}, streams {streams}, {guarded}, chunks {bytes} bytes"
@@ -384,11 +361,11 @@ raise that by 'ulimit -n', or by LimitNOFILE= of its unit");
     note_text(log, output);
 }
 
-/// How many bytes all connections keep at most for messages of version 2, where these are answered.
-fn parts_bytes_of<R: Files + Alloc<A = Global>>(rt: &R, stay: &Stay<'_>) -> Option<u64> {
-    match stay.parts? {
-        PartsLimit::Bytes(bytes) => Some(bytes),
-        PartsLimit::Percent(percent) => Some(share_of_memory(rt, percent)),
+/// How many bytes all connections keep at most.
+fn parts_bytes_of<R: Files + Alloc<A = Global>>(rt: &R, stay: &Stay<'_>) -> u64 {
+    match stay.parts {
+        PartsLimit::Bytes(bytes) => bytes,
+        PartsLimit::Percent(percent) => share_of_memory(rt, percent),
     }
 }
 
@@ -415,28 +392,14 @@ fn serve_doors<
     level: Level,
     doors: Vec<Door<'d, J, N>>,
     seats: Vec<ReaderSeat<J>>,
-    in_both: bool,
     limits: Limits,
     meters: &'d Meters<'d>,
-    reports: Option<Reports<J>>,
     texts: Sender<Text>,
     backlog: &Backlog,
 ) -> Result<(), NetFault> {
-    let mut lines = TextWriter::new(rt, alloc, Target::Lines, &texts, backlog);
-    let words = TextWriter::new(rt, alloc, Target::Words, &texts, backlog);
-    let mut others = TextWriter::new(rt, alloc, Target::Words, &texts, backlog);
-    let mut output = Output::new(alloc, &mut lines, &mut others);
-    let mut reporter = LinkReporter::new(alloc, &mut output, &heads, words, level, reports);
-    serve_forever(
-        rt,
-        alloc,
-        doors,
-        seats,
-        in_both,
-        limits,
-        meters,
-        &mut reporter,
-    )
+    let words = TextWriter::new(rt, alloc, &texts, backlog);
+    let mut reporter = LinkReporter::new(alloc, &heads, words, level);
+    serve_forever(rt, alloc, doors, seats, limits, meters, &mut reporter)
 }
 
 /// The same, and writes what is printed: this thread alone waits where nobody reads it.
@@ -454,11 +417,10 @@ fn serve_writing<
     doors: Vec<Door<'d, J, N>>,
     seats: Vec<ReaderSeat<J>>,
     meters: &'d Meters<'d>,
-    reports: Option<Reports<J>>,
     output: &mut Output<'_, W, E>,
 ) -> Result<(), NetFault> {
     let (level, heads) = (stay.level, heads_of(rt, alloc, stay));
-    let (in_both, limits) = (stay.parts.is_some(), limits_of(stay));
+    let limits = limits_of(stay);
     let told_heads = heads_of(rt, alloc, stay);
     let backlog = Backlog::new();
     let backlog = &backlog;
@@ -472,8 +434,7 @@ fn serve_writing<
             let serving = scope
                 .spawn(move || {
                     serve_doors(
-                        rt, alloc, heads, level, doors, seats, in_both, limits, meters, reports,
-                        texts, backlog,
+                        rt, alloc, heads, level, doors, seats, limits, meters, texts, backlog,
                     )
                 })
                 .ok();
@@ -502,26 +463,6 @@ fn put_back<J: NodeName>(
     }
 }
 
-/// Has a node take what it begins with, on one of its seats.
-fn take_on_seat<J: NodeName, N: Wait + Drop, R, W: Write, E: Write>(
-    rt: &R,
-    node: &Node<J, N>,
-    stay: &Stay<'_>,
-    start: &Start<'_>,
-    seats: &mut Vec<ReaderSeat<J>>,
-    output: &mut Output<'_, W, E>,
-) -> Result<Begun, Stop>
-where
-    R: Net<Listener = TcpListener, Stream = TcpStream> + Clock + Files + Alloc<A = Global>,
-    R: Threads + Wait + Sync,
-{
-    let mut seat = seats.pop();
-    let heads = heads_of(rt, rt.alloc(), stay);
-    let begun = begin(rt, &heads, node, &mut seat, start, output);
-    put_back(seat, seats)?;
-    Ok(begun)
-}
-
 /// Refuses where a file is there and none is whole, and where nothing was taken and something has to be.
 fn begun_checked<W: Write, E: Write>(
     start: &Start<'_>,
@@ -541,161 +482,6 @@ fn begun_checked<W: Write, E: Write>(
     }
 }
 
-/// Has a node take what it begins with. It refuses where it may not begin with that.
-fn take_start<J: NodeName, N: Wait + Drop, R, W: Write, E: Write>(
-    rt: &R,
-    node: &Node<J, N>,
-    stay: &Stay<'_>,
-    seats: &mut Vec<ReaderSeat<J>>,
-    output: &mut Output<'_, W, E>,
-) -> Result<(), Stop>
-where
-    R: Net<Listener = TcpListener, Stream = TcpStream> + Clock + Files + Alloc<A = Global>,
-    R: Threads + Wait + Sync,
-{
-    let Some(start) = &stay.start else {
-        return Ok(());
-    };
-    let begun = take_on_seat(rt, node, stay, start, seats, output)?;
-    output.flush()?;
-    begun_checked(start, begun, output)
-}
-
-/// Prints that connections can be opened.
-fn tell_start<W: Write, E: Write>(
-    alloc: Global,
-    config: Config,
-    stay: &Stay<'_>,
-    opened: Opened,
-    output: &mut Output<'_, W, E>,
-) -> Result<(), Stop> {
-    match stay.start {
-        Some(_) => tell_opened(alloc, config, stay, opened, output),
-        None => tell_ports(stay, opened.port, output),
-    }
-}
-
-/// Who reports the node's front, where that is asked for.
-fn reports_of<J: NodeName>(stay: &Stay<'_>, seats: &mut Vec<ReaderSeat<J>>) -> Option<Reports<J>> {
-    match stay.report_changes {
-        0 => None,
-        every => seats.pop().map(|seat| Reports::new(seat, every)),
-    }
-}
-
-/// The meters of a node with so many doors, and prints that connections can be opened.
-fn begun<'d, R, W: Write, E: Write>(
-    rt: &R,
-    config: Config,
-    stay: &Stay<'_>,
-    budgets: &'d Budgets,
-    doors: usize,
-    opened: Opened,
-    output: &mut Output<'_, W, E>,
-) -> Result<Meters<'d>, Stop>
-where
-    R: Clock + Files<File = File> + Alloc<A = Global>,
-{
-    let meters = meters_of(rt, &budgets.others, budgets.reading.as_ref(), doors)?;
-    tell_start(rt.alloc(), config, stay, opened, output)?;
-    Ok(meters)
-}
-
-/// Serves connections at the doors of a node without an end.
-fn stay_at<J: NodeName + Send + Sync, R, W: Write, E: Write>(
-    rt: &R,
-    config: Config,
-    stay: &Stay<'_>,
-    doors: Vec<Door<'_, J, &R>>,
-    seats: &mut Vec<ReaderSeat<J>>,
-    budgets: &Budgets,
-    opened: Opened,
-    output: &mut Output<'_, W, E>,
-) -> Result<(), Stop>
-where
-    R: Net<Listener = TcpListener, Stream = TcpStream>
-        + Clock
-        + Files<File = File>
-        + Alloc<A = Global>,
-    R: Threads + Wait + Sync,
-{
-    let meters = begun(rt, config, stay, budgets, doors.len(), opened, output)?;
-    let reports = reports_of(stay, seats);
-    let seats = mem::replace(seats, Vec::new(rt.alloc()));
-    serve_writing(rt, rt.alloc(), stay, doors, seats, &meters, reports, output).map_err(stop_of)
-}
-
-/// Serves connections to a node at these listeners without an end.
-fn stay_with<J: NodeName + Send + Sync, R, W: Write, E: Write>(
-    rt: &R,
-    config: Config,
-    stay: &Stay<'_>,
-    node: &Node<J, &R>,
-    listeners: &Listeners,
-    seats: &mut Vec<ReaderSeat<J>>,
-    output: &mut Output<'_, W, E>,
-) -> Result<(), Stop>
-where
-    R: Net<Listener = TcpListener, Stream = TcpStream>
-        + Clock
-        + Files<File = File>
-        + Alloc<A = Global>,
-    R: Threads + Wait + Sync,
-{
-    let heads = heads_of(rt, rt.alloc(), stay);
-    tell_files(&heads, workers_of(rt, stay), stay, output);
-    output.flush()?;
-    let opened = Opened {
-        port: port_of(&listeners.open, stay.port),
-        parts_bytes: parts_bytes_of(rt, stay),
-    };
-    let budgets = Budgets::new(rt.alloc(), opened.parts_bytes.unwrap_or(PLAIN_BYTES), stay)?;
-    let doors = doors_of(rt.alloc(), node, stay, listeners, &budgets)?;
-    stay_at(rt, config, stay, doors, seats, &budgets, opened, output)
-}
-
-/// Opens the ports and sockets of a node, and serves connections to it without an end.
-fn stay_open<J: NodeName + Send + Sync, R, W: Write, E: Write>(
-    rt: &R,
-    config: Config,
-    stay: &Stay<'_>,
-    node: &Node<J, &R>,
-    seats: &mut Vec<ReaderSeat<J>>,
-    output: &mut Output<'_, W, E>,
-) -> Result<(), Stop>
-where
-    R: Net<Listener = TcpListener, Stream = TcpStream>
-        + Clock
-        + Files<File = File>
-        + Alloc<A = Global>,
-    R: Threads + Wait + Sync,
-{
-    let listeners = listeners_of(rt, stay, output)?;
-    stay_with(rt, config, stay, node, &listeners, seats, output)
-}
-
-/// Has a new node of this list take what it begins with, and serves connections to it without an end.
-fn stay_list<J: NodeName + Send + Sync, R, W: Write, E: Write>(
-    rt: &R,
-    config: Config,
-    stay: &Stay<'_>,
-    list: NewList,
-    output: &mut Output<'_, W, E>,
-) -> Result<(), Stop>
-where
-    R: Net<Listener = TcpListener, Stream = TcpStream>
-        + Clock
-        + Files<File = File>
-        + Alloc<A = Global>,
-    R: Threads + Wait + Sync,
-    requires { list ≡ (J.book, J.kind) }
-{
-    let wanted = seats_wanted(workers_of(rt, stay), stay);
-    let (node, mut seats) = start::<J, &R>(rt, rt.alloc(), list, wanted)?;
-    take_start(rt, &node, stay, &mut seats, output)?;
-    stay_open(rt, config, stay, &node, &mut seats, output)
-}
-
 /// Prints a line where the program was built without proofs.
 fn tell_if_unproved<R: Clock, W: Write, E: Write>(
     heads: &Heads<'_, R>,
@@ -712,21 +498,15 @@ fn tell_if_unproved<R: Clock, W: Write, E: Write>(
     }
 }
 
-/// Where a node prints: as `node` bytes, since it prints one line of its own form.
-fn output_form(stay: &Stay<'_>) -> OutputForm {
-    match stay.start {
-        Some(_) => OutputForm::Bytes,
-        None => OutputForm::Lines,
-    }
+/// What a node is opened with: what it runs by, its log, and what is asked of it.
+#[derive(Drop)]
+struct Opening<'o, R> {
+    rt: &'o R,
+    config: Config,
+    stay: &'o Stay<'o>,
 }
 
-/// Starts a node of a log, and serves connections to it without an end.
-fn stay_printing<R, W: Write, E: Write>(
-    rt: &R,
-    config: Config,
-    stay: &Stay<'_>,
-    output: &mut Output<'_, W, E>,
-) -> Result<(), Stop>
+impl<'o, R> Opening<'o, R>
 where
     R: Net<Listener = TcpListener, Stream = TcpStream>
         + Clock
@@ -734,9 +514,104 @@ where
         + Alloc<A = Global>,
     R: Threads + Wait + Sync,
 {
-    tell_if_unproved(&heads_of(rt, rt.alloc(), stay), output);
-    let list = new_list(config, stay.is_guarded);
-    stay_list::<Brand, R, W, E>(rt, config, stay, list, output)
+    /// Has a node take what it begins with, on one of its seats.
+    fn take_on_seat<J: NodeName, N: Wait + Drop, W: Write, E: Write>(
+        &self,
+        node: &Node<J, N>,
+        start: &Start<'_>,
+        seats: &mut Vec<ReaderSeat<J>>,
+        output: &mut Output<'_, W, E>,
+    ) -> Result<Begun, Stop> {
+        let mut seat = seats.pop();
+        let heads = heads_of(self.rt, self.rt.alloc(), self.stay);
+        let begun = begin(self.rt, &heads, node, &mut seat, start, output);
+        put_back(seat, seats)?;
+        Ok(begun)
+    }
+
+    /// Has a node take what it begins with. It refuses where it may not begin with that.
+    fn take_start<J: NodeName, N: Wait + Drop, W: Write, E: Write>(
+        &self,
+        node: &Node<J, N>,
+        seats: &mut Vec<ReaderSeat<J>>,
+        output: &mut Output<'_, W, E>,
+    ) -> Result<(), Stop> {
+        let start = &self.stay.start;
+        let begun = self.take_on_seat(node, start, seats, output)?;
+        output.flush()?;
+        begun_checked(start, begun, output)
+    }
+
+    /// The meters of a node with so many doors, and prints that connections can be opened.
+    fn begun<'d, W: Write, E: Write>(
+        &self,
+        budgets: &'d Budgets,
+        doors: usize,
+        opened: Opened,
+        output: &mut Output<'_, W, E>,
+    ) -> Result<Meters<'d>, Stop> {
+        let meters = meters_of(self.rt, &budgets.others, budgets.reading.as_ref(), doors)?;
+        tell_opened(self.rt.alloc(), self.config, self.stay, opened, output)?;
+        Ok(meters)
+    }
+
+    /// Serves connections at the doors of a node without an end.
+    fn stay_at<J: NodeName + Send + Sync, W: Write, E: Write>(
+        &self,
+        doors: Vec<Door<'_, J, &'o R>>,
+        seats: &mut Vec<ReaderSeat<J>>,
+        budgets: &Budgets,
+        opened: Opened,
+        output: &mut Output<'_, W, E>,
+    ) -> Result<(), Stop> {
+        let (rt, stay) = (self.rt, self.stay);
+        let meters = self.begun(budgets, doors.len(), opened, output)?;
+        let seats = mem::replace(seats, Vec::new(rt.alloc()));
+        serve_writing(rt, rt.alloc(), stay, doors, seats, &meters, output).map_err(stop_of)
+    }
+
+    /// Opens the ports and sockets of a node, and serves connections to it without an end.
+    fn stay_open<J: NodeName + Send + Sync, W: Write, E: Write>(
+        &self,
+        node: &Node<J, &'o R>,
+        seats: &mut Vec<ReaderSeat<J>>,
+        output: &mut Output<'_, W, E>,
+    ) -> Result<(), Stop> {
+        let (rt, stay) = (self.rt, self.stay);
+        let listeners = listeners_of(rt, stay, output)?;
+        let heads = heads_of(rt, rt.alloc(), stay);
+        tell_files(&heads, workers_of(rt, stay), stay, output);
+        output.flush()?;
+        let opened = Opened {
+            port: port_of(&listeners.open, stay.port),
+            parts_bytes: parts_bytes_of(rt, stay),
+        };
+        let budgets = Budgets::new(rt.alloc(), opened.parts_bytes, stay)?;
+        let doors = doors_of(rt.alloc(), node, stay, &listeners, &budgets)?;
+        self.stay_at(doors, seats, &budgets, opened, output)
+    }
+
+    /// Has a new node of this list take what it begins with, and serves connections to it without an end.
+    fn stay_list<J: NodeName + Send + Sync, W: Write, E: Write>(
+        &self,
+        list: NewList,
+        output: &mut Output<'_, W, E>,
+    ) -> Result<(), Stop>
+        requires { list ≡ (J.book, J.kind) }
+    {
+        let (rt, stay) = (self.rt, self.stay);
+        let wanted = seats_wanted(workers_of(rt, stay));
+        let (node, mut seats) = start::<J, &'o R>(rt, rt.alloc(), list, wanted)?;
+        self.take_start(&node, &mut seats, output)?;
+        self.stay_open(&node, &mut seats, output)
+    }
+
+    /// Starts a node of a log, and serves connections to it without an end.
+    fn stay_printing<W: Write, E: Write>(&self, output: &mut Output<'_, W, E>) -> Result<(), Stop> {
+        tell_if_unproved(&heads_of(self.rt, self.rt.alloc(), self.stay), output);
+        let list = new_list(self.config, self.stay.is_guarded);
+        self.stay_list::<Brand, W, E>(list, output)
+    }
 }
 
 /// Prints why serving ended, where it did. The status of the command.
@@ -749,18 +624,17 @@ fn status_of<W: Write, E: Write>(ended: Result<(), Stop>, output: &mut Output<'_
     }
 }
 
-/// Starts a node of a log, and serves connections to it without an end: a place is free again when its connection ends. As `node` it
-/// first takes what a file of `save` has, and then what the first of other nodes that answers has above that; neither needs to be
-/// there, unless it is asked for. Prints `listening` and the port once connections can be opened, `feeding` and `reading` and a further
-/// port where there is one, and `ended` and its number for each connection when it ends; as `node` one line of what it opened, and no other.
+/// Starts a node of a log, and serves connections to it without an end: a place is free again when its connection ends. It first takes
+/// what a file of `save` has, and then what the first of other nodes that answers has above that; neither needs to be there, unless it
+/// is asked for. Prints one line of what it opened once connections can be opened, and no other.
 ///
-/// It ends, and the status is 1, only where one of these happens: `refused 93` where a port can't be listened to,
-/// `refused 90` where memory ran out for the node or its threads, and no line where those first lines can't be written, or where nothing
-/// was taken that is asked for. Later lines that can't be written are lost, and the node serves on. Each connection that opens and ends,
-/// each change that is refused, and each accept that failed is printed to `errors` in words, as far as the level asks for it, and the
-/// node's front after so many changes; as `node` with the time, how grave it is, and the peer's address, or where the call has it so in
-/// lines of JSON. Of one kind of line and one port at most 10 are printed in a second, and then how many more there were. No connection
-/// waits for a line to be written: where 1,024 texts wait, further lines are dropped, and how many is printed once there is room. Cost: that of `start`, of what is taken, and of `serve_forever`.
+/// It ends, and the status is 1, only where one of these happens: a port can't be listened to, memory ran out for the node or its
+/// threads, that line can't be written, or nothing was taken that is asked for. Each connection that opens and ends, each change that
+/// is refused, and each accept that failed is printed to `errors` in words, as far as the level asks for it, and each change that takes
+/// effect: with the time, how grave it is, and the peer's address, or where the call has it so in lines of JSON. Lines that can't be
+/// written are lost, and the node serves on. Of one kind of line and one port at most 10 are printed in a second, and then how many more
+/// there were. No connection waits for a line to be written: where 1,024 texts wait, further lines are dropped, and how many is printed
+/// once there is room. Cost: that of `start`, of what is taken, and of `serve_forever`.
 pub fn run_stay<R, W: Write, E: Write>(
     rt: &R,
     config: Config,
@@ -776,15 +650,16 @@ where
     R: Threads + Wait + Sync,
     ensures { result ≤ 1 }
 {
-    let (alloc, form) = (rt.alloc(), output_form(stay));
+    let alloc = rt.alloc();
+    let opening = Opening { rt, config, stay };
     if stay.in_json {
         let mut wrapped = WrappedWords::new(alloc, rt, errors);
-        let mut output = Output::of_form(alloc, form, writer, &mut wrapped);
-        let ended = stay_printing(rt, config, stay, &mut output);
+        let mut output = Output::of_form(alloc, OutputForm::Bytes, writer, &mut wrapped);
+        let ended = opening.stay_printing(&mut output);
         status_of(ended, &mut output)
     } else {
-        let mut output = Output::of_form(alloc, form, writer, errors);
-        let ended = stay_printing(rt, config, stay, &mut output);
+        let mut output = Output::of_form(alloc, OutputForm::Bytes, writer, errors);
+        let ended = opening.stay_printing(&mut output);
         status_of(ended, &mut output)
     }
 }

@@ -15,19 +15,9 @@ use std::sync::atomic::{AtomicU64, Ordering};
 /// How many texts may wait to be written.
 pub(crate) const MOST_WAITING: usize = 1_024;
 
-/// Where a text is written.
-#[derive(Clone, Copy)]
-pub(crate) enum Target {
-    /// Standard output.
-    Lines,
-    /// Standard error.
-    Words,
-}
-
-/// A text that waits to be written.
+/// A text that waits to be written to standard error.
 #[derive(Drop)]
 pub(crate) struct Text {
-    target: Target,
     bytes: Vec<u8>,
 }
 
@@ -56,12 +46,11 @@ impl Backlog {
 }
 
 /// A writer whose texts another thread writes, so that it never waits: where 1,024 texts wait, a further one is dropped,
-/// and its lines are counted. One thread has all writers of a backlog.
+/// and its lines are counted.
 #[derive(Drop)]
 pub(crate) struct TextWriter<'q, R: Wait> {
     rt: &'q R,
     alloc: Global,
-    target: Target,
     texts: &'q Sender<Text>,
     backlog: &'q Backlog,
 }
@@ -70,14 +59,12 @@ impl<'q, R: Wait> TextWriter<'q, R> {
     pub(crate) fn new(
         rt: &'q R,
         alloc: Global,
-        target: Target,
         texts: &'q Sender<Text>,
         backlog: &'q Backlog,
     ) -> TextWriter<'q, R> {
         TextWriter {
             rt,
             alloc,
-            target,
             texts,
             backlog,
         }
@@ -87,10 +74,9 @@ impl<'q, R: Wait> TextWriter<'q, R> {
     fn hand(&self, buf: &[u8]) -> Result<(), AllocError> {
         let mut bytes = Vec::with_capacity(self.alloc, buf.len())?;
         bytes.extend_from_slice(buf)?;
-        let target = self.target;
         self.backlog.waiting.fetch_add(1, Ordering::SeqCst);
         // Somebody receives texts for as long as there is a sender.
-        let _sent = self.texts.send(self.rt, Text { target, bytes });
+        let _sent = self.texts.send(self.rt, Text { bytes });
         Ok(())
     }
 }
@@ -124,15 +110,8 @@ impl<R: Wait> Write for TextWriter<'_, R> {
 
 /// Writes a text. One that can't be written is lost.
 fn write_text<W: Write, E: Write>(text: &Text, output: &mut Output<'_, W, E>) {
-    match text.target {
-        Target::Lines => {
-            let _written = output.send(&text.bytes);
-        }
-        Target::Words => {
-            output.note(str::from_utf8(&text.bytes).unwrap_or(""));
-            let _written = output.flush();
-        }
-    }
+    output.note(str::from_utf8(&text.bytes).unwrap_or(""));
+    let _written = output.flush();
 }
 
 /// Writes how many lines were dropped, if any were. Where there is no memory for the line it is lost.

@@ -3,11 +3,10 @@
 use crate::calls::{asked_time, call_of, refusal_named, u64_of, waits};
 use crate::command::program;
 use crate::flaw::{Flaw, WordFlaw, text_of};
-use crate::forms::{CommandForm, all_numbers_of, command_named, numbers_of_query, query_named};
+use crate::forms::{CommandForm, command_named, numbers_of, numbers_of_query, query_named};
 use crate::node::start_checked;
 use crate::numbers::{Number, name_of};
 use crate::places::{is_alone, is_decimal, place_checked};
-use crate::stay::serve_checked;
 use clap::error::ErrorKind;
 use clap::{ArgMatches, Command, Error};
 use hk_cli_calls::Call;
@@ -97,7 +96,6 @@ fn words_checked<'a>(form: CommandForm, matches: &ArgMatches<'a>) -> Result<(), 
             None => Ok(()),
         },
         CommandForm::Explain => refusal_checked(matches),
-        CommandForm::Serve => serve_checked(matches),
         CommandForm::Node => start_checked(matches),
         _other => Ok(()),
     }
@@ -109,7 +107,7 @@ fn form_call<'a>(
     matches: &ArgMatches<'a>,
     named: Option<&'a str>,
 ) -> Result<Call<'a>, Flaw<'a>> {
-    numbers_checked(matches, all_numbers_of(form))?;
+    numbers_checked(matches, numbers_of(form))?;
     words_checked(form, matches)?;
     place_checked(form, matches, named)?;
     match call_of(form, matches, named) {

@@ -3,7 +3,7 @@
 use crate::forms::{CommandForm, QueryForm, query_named};
 use crate::node;
 use crate::places::{is_alone, is_decimal, place_of, source_of};
-use crate::stay::serve_call;
+use crate::serve::serve_call;
 use clap::ArgMatches;
 use hk_cli_calls::{Alone, Bodies, Call, Kept, Limits, NodeCall, NodePlace, Order, OutputForm};
 use hk_cli_reasons::number_named;

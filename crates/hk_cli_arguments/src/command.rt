@@ -2,9 +2,8 @@
 
 use crate::argument::argument;
 use crate::forms::{
-    CommandForm, QueryForm, about_of, all_forms, example_of, last_numbers_of, long_about_of,
-    name_of, numbers_of, numbers_of_query, queries_of, query_about, query_name, query_words,
-    words_of,
+    CommandForm, QueryForm, about_of, all_forms, example_of, long_about_of, name_of, numbers_of,
+    numbers_of_query, queries_of, query_about, query_name, query_words, words_of,
 };
 use crate::numbers::Number;
 use crate::texts;
@@ -69,8 +68,7 @@ fn add_args<'a>(
     args: &mut Vec<Arg<'a>>,
 ) -> Result<(), AllocError> {
     add_all(alloc, numbers_of(form), args)?;
-    add_all(alloc, words_of(form), args)?;
-    add_all(alloc, last_numbers_of(form), args)
+    add_all(alloc, words_of(form), args)
 }
 
 /// The same as a list.

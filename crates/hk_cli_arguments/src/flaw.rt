@@ -37,8 +37,6 @@ pub(crate) enum Flaw<'a> {
     Word(&'a str, WordFlaw),
     /// A number from which no call can be made.
     Range,
-    /// More connections are to be served than threads are started for.
-    Slots,
     /// Item frames are asked without a time.
     NoTime,
     /// The time is given before the query and behind it.
@@ -90,9 +88,6 @@ fn address_behind(flaw: WordFlaw) -> &'static str {
 /// What is wrong with the words as a whole.
 fn words_of(flaw: Flaw<'_>) -> &'static str {
     match flaw {
-        Flaw::Slots => {
-            "--links is 64 at most where the node doesn't stay: --stay serves up to 65535 at once"
-        }
         Flaw::NoTime => {
             "the time is missing: give TIME before the query, or --at TIME behind it"
         }

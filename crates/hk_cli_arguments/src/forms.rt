@@ -1,6 +1,6 @@
 //! The commands and the queries.
 
-use crate::numbers::{Number, node_numbers, serve_numbers, serve_words, stay_numbers};
+use crate::numbers::{Number, node_numbers, serve_numbers};
 use crate::texts;
 use crate::words::Word;
 
@@ -282,34 +282,10 @@ pub(crate) fn numbers_of(form: CommandForm) -> &'static [Number] {
     }
 }
 
-/// The numbers that it accepts behind its words.
-pub(crate) fn last_numbers_of(form: CommandForm) -> &'static [Number] {
-    match form {
-        CommandForm::Serve => stay_numbers(),
-        _other => &[],
-    }
-}
-
-/// All of its numbers, in the order in which a bad word is looked for.
-pub(crate) fn all_numbers_of(form: CommandForm) -> &'static [Number] {
-    match form {
-        CommandForm::Serve => serve_words(),
-        other => numbers_of(other),
-    }
-}
-
 /// What a command that starts a node accepts beside numbers.
 fn words_of_serving(form: CommandForm) -> &'static [Word] {
     match form {
-        CommandForm::Serve => &[
-            Word::Stay,
-            Word::Guard,
-            Word::StayQuiet,
-            Word::StayVerbose,
-            Word::StayListening,
-            Word::StaySocket,
-            Word::StayReadSocket,
-        ],
+        CommandForm::Serve => &[Word::Guard],
         CommandForm::Node => &[
             Word::Sources,
             Word::Load,

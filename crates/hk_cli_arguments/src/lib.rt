@@ -10,7 +10,7 @@ mod forms;
 mod node;
 mod numbers;
 mod places;
-mod stay;
+mod serve;
 mod texts;
 mod words;
 

@@ -1,14 +1,13 @@
 //! The call of `node`.
 
-use crate::calls::{config_of, has_flag, port_of, u16_of};
+use crate::calls::{config_of, has_flag, port_of, u16_of, u64_of};
 use crate::flaw::{Flaw, WordFlaw};
 use crate::places::port_or_place;
-use crate::stay::{
-    address_of, count_of, level_of, other_port, read_rate_of, report_changes_of, seconds_of,
-    stay_checked,
-};
 use clap::ArgMatches;
-use hk_cli_calls::{Call, MOST_FILES, MOST_SOURCES, NodePlace, PartsLimit, Start, Stay};
+use hk_cli_calls::{
+    Call, Level, MOST_FILES, MOST_SOURCES, NodePlace, OtherPort, PartsLimit, Start, Stay,
+};
+use std::net::{IpAddr, Ipv4Addr};
 
 /// The port that is opened by default.
 const PORT: u16 = 7_420;
@@ -129,6 +128,51 @@ fn files_of<'a>(matches: &ArgMatches<'a>) -> Files<'a> {
     files
 }
 
+/// How many this option asks for, 0 without it.
+fn count_of(matches: &ArgMatches<'_>, name: &str) -> u16 {
+    u16_of(matches, name).unwrap_or(0)
+}
+
+/// A further port by these options, if there is one.
+fn other_port(matches: &ArgMatches<'_>, port: &str, links: &str) -> Option<OtherPort> {
+    let port = u16_of(matches, port)?;
+    let links = count_of(matches, links);
+    Some(OtherPort { port, links })
+}
+
+/// The limit of time of this name, in seconds.
+fn seconds_of(matches: &ArgMatches<'_>, name: &str, default: u64) -> u64 {
+    u64_of(matches, name).unwrap_or(default)
+}
+
+/// How many bytes a second of what takes long have to come.
+fn read_rate_of(matches: &ArgMatches<'_>) -> u64 {
+    u64_of(matches, "read-rate").unwrap_or(READ_RATE)
+}
+
+fn address_named(word: &str) -> Option<IpAddr> {
+    word.parse::<IpAddr>().ok()
+}
+
+/// The address that is named, or that of this machine alone.
+fn address_of(matches: &ArgMatches<'_>) -> Option<IpAddr> {
+    match matches.get_str("address") {
+        None => Some(IpAddr::V4(Ipv4Addr::LOCALHOST)),
+        Some(word) => address_named(word),
+    }
+}
+
+/// What is reported of connections.
+fn level_of(matches: &ArgMatches<'_>) -> Level {
+    if has_flag(matches, "quiet") {
+        Level::Faults
+    } else if has_flag(matches, "verbose") {
+        Level::Changes
+    } else {
+        Level::Links
+    }
+}
+
 /// Whether the lines on standard error are JSON, where the word that is given for their form is one.
 fn is_json(matches: &ArgMatches<'_>) -> Option<bool> {
     match matches.get_str("log-format") {
@@ -138,7 +182,17 @@ fn is_json(matches: &ArgMatches<'_>) -> Option<bool> {
     }
 }
 
-/// Whether the form of the lines, and what a node keeps for snapshots in chunks, is written as these are.
+/// Whether the address at which ports are opened is one.
+fn address_checked<'a>(matches: &ArgMatches<'a>) -> Result<(), Flaw<'a>> {
+    match matches.get_str("address") {
+        Some(word) if address_named(word).is_none() => {
+            Err(Flaw::Word(word, WordFlaw::Listening))
+        }
+        _address => Ok(()),
+    }
+}
+
+/// Whether the form of the lines, what a node keeps for snapshots in chunks, and its address are written as these are.
 fn forms_checked<'a>(matches: &ArgMatches<'a>) -> Result<(), Flaw<'a>> {
     match matches.get_str("log-format") {
         Some(word) if is_json(matches).is_none() => {
@@ -148,7 +202,7 @@ fn forms_checked<'a>(matches: &ArgMatches<'a>) -> Result<(), Flaw<'a>> {
     }
     match matches.get_str("link-bytes") {
         Some(word) if limit_named(word).is_none() => Err(Flaw::Word(word, WordFlaw::Chunks)),
-        _limit => stay_checked(matches),
+        _limit => address_checked(matches),
     }
 }
 
@@ -170,13 +224,12 @@ fn start_of<'a>(matches: &ArgMatches<'a>) -> Start<'a> {
         may_lack_file: has_flag(matches, "load-or-empty"),
         sources: sources_of(matches).places,
         needs_data: has_flag(matches, "need-data"),
-        read_rate: read_rate_of(matches, READ_RATE),
+        read_rate: read_rate_of(matches),
     }
 }
 
 /// The call that `node` makes, where each argument is in its range and they have no flaw.
 pub(crate) fn node_call<'a>(matches: &ArgMatches<'a>) -> Option<Call<'a>> {
-    let (read_seconds, write_seconds, idle_seconds) = seconds_of(matches, SECONDS);
     let stay = Stay {
         address: address_of(matches)?,
         port: port_of(matches).unwrap_or(PORT),
@@ -186,16 +239,15 @@ pub(crate) fn node_call<'a>(matches: &ArgMatches<'a>) -> Option<Call<'a>> {
         socket: matches.get_str("socket"),
         read_socket: matches.get_str("read-socket"),
         workers: count_of(matches, "workers"),
-        read_seconds,
-        read_rate: read_rate_of(matches, READ_RATE),
-        write_seconds,
-        idle_seconds,
+        read_seconds: seconds_of(matches, "read-seconds", SECONDS),
+        read_rate: read_rate_of(matches),
+        write_seconds: seconds_of(matches, "write-seconds", SECONDS),
+        idle_seconds: seconds_of(matches, "idle-seconds", 0),
         is_guarded: !has_flag(matches, "no-guard"),
-        parts: limit_of(matches),
+        parts: limit_of(matches)?,
         level: level_of(matches),
-        report_changes: report_changes_of(matches),
         in_json: is_json(matches).unwrap_or(false),
-        start: Some(start_of(matches)),
+        start: start_of(matches),
     };
     Some(Call::Stay(config_of(matches)?, stay))
 }

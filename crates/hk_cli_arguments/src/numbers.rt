@@ -35,25 +35,14 @@ pub(crate) enum Number {
     SentMessages,
     PartsBytes,
     ReadSeconds,
-    NodeReadSeconds,
     ReadRate,
-    NodeReadRate,
-    ReportChanges,
-    NodeReportChanges,
     FeedPort,
-    NodeFeedPort,
     FeedLinks,
-    NodeFeedLinks,
     ReadPort,
-    NodeReadPort,
     ReadLinks,
-    NodeReadLinks,
     Workers,
-    NodeWorkers,
     WriteSeconds,
-    NodeWriteSeconds,
     IdleSeconds,
-    NodeIdleSeconds,
 }
 
 /// The name of a number that a node's ports, connections and limits of time have.
@@ -63,17 +52,16 @@ fn name_of_node(number: Number) -> &'static str {
         Number::ReplySeconds | Number::OrReplySeconds => "reply-seconds",
         Number::Messages | Number::SentMessages => "messages",
         Number::PartsBytes => "link-bytes",
-        Number::ReadSeconds | Number::NodeReadSeconds => "read-seconds",
-        Number::ReadRate | Number::NodeReadRate => "read-rate",
-        Number::ReportChanges | Number::NodeReportChanges => "report-changes",
-        Number::FeedPort | Number::NodeFeedPort => "feed-port",
-        Number::FeedLinks | Number::NodeFeedLinks => "feed-links",
-        Number::ReadPort | Number::NodeReadPort => "read-port",
-        Number::ReadLinks | Number::NodeReadLinks => "read-links",
+        Number::ReadSeconds => "read-seconds",
+        Number::ReadRate => "read-rate",
+        Number::FeedPort => "feed-port",
+        Number::FeedLinks => "feed-links",
+        Number::ReadPort => "read-port",
+        Number::ReadLinks => "read-links",
         Number::Links | Number::NodeLinks => "links",
-        Number::Workers | Number::NodeWorkers => "workers",
-        Number::WriteSeconds | Number::NodeWriteSeconds => "write-seconds",
-        Number::IdleSeconds | Number::NodeIdleSeconds => "idle-seconds",
+        Number::Workers => "workers",
+        Number::WriteSeconds => "write-seconds",
+        Number::IdleSeconds => "idle-seconds",
         _port => "port",
     }
 }
@@ -100,11 +88,11 @@ pub(crate) fn name_of(number: Number) -> &'static str {
 fn value_of_node(number: Number) -> &'static str {
     match number {
         Number::Messages | Number::SentMessages => "V",
-        Number::FeedPort | Number::NodeFeedPort => "P3",
-        Number::FeedLinks | Number::NodeFeedLinks => "M3",
-        Number::ReadPort | Number::NodeReadPort => "P2",
-        Number::ReadLinks | Number::NodeReadLinks => "M",
-        Number::ReadRate | Number::NodeReadRate => "BYTES",
+        Number::FeedPort => "P3",
+        Number::FeedLinks => "M3",
+        Number::ReadPort => "P2",
+        Number::ReadLinks => "M",
+        Number::ReadRate => "BYTES",
         Number::Port | Number::ServePort | Number::NodePort => "P",
         _other => "N",
     }
@@ -129,57 +117,39 @@ fn value_of(number: Number) -> &'static str {
 /// The help of a number of a node's connections.
 fn help_of_links(number: Number) -> &'static str {
     match number {
-        Number::Links =>
-            "How many connections are served, 1 to 64; with --stay at once, 1 to 65535",
+        Number::Links => "How many connections are served, 1 to 64",
         Number::NodePort =>
             "The port of 127.0.0.1: 1 to 65535, or 0 for one that is free; 7420 where it isn't given",
         Number::NodeLinks => {
             "How many connections are served at once: 1 to 65535; 64 where it isn't given"
         }
-        Number::FeedPort | Number::NodeFeedPort =>
-            "A further port, whose connections may send items and ask: 1 to 65535",
-        Number::FeedLinks | Number::NodeFeedLinks => {
-            "How many connections to that port are served at once: 1 to 65535"
-        }
-        Number::ReadPort | Number::NodeReadPort =>
-            "A second port, whose connections may only read: 1 to 65535",
-        Number::ReadLinks | Number::NodeReadLinks => {
-            "How many read-only connections are served at once: 1 to 65535"
-        }
+        Number::FeedPort => "A further port, whose connections may send items and ask: 1 to 65535",
+        Number::FeedLinks => { "How many connections to that port are served at once: 1 to 65535" }
+        Number::ReadPort => "A second port, whose connections may only read: 1 to 65535",
+        Number::ReadLinks => { "How many read-only connections are served at once: 1 to 65535" }
         Number::ReadSeconds => {
-            "End a connection where inside a frame nothing comes for so long: 0 (never) to 86400"
-        }
-        Number::NodeReadSeconds => {
             "End a connection where inside a frame nothing comes for so long: 0 (never) to 86400; 30 where it isn't given"
         }
         other => help_of_workers(other),
     }
 }
 
-/// The help of a number of workers, of limits of time or of a rate, or of changes.
+/// The help of a number of workers, of limits of time or of a rate.
 fn help_of_workers(number: Number) -> &'static str {
     match number {
         Number::ReadRate => {
-            "End a connection of whose frame after 30 seconds fewer bytes a second have come than this: 0 (never) to 1048576; 0 where it \
-isn't given"
-        }
-        Number::NodeReadRate => {
             "End a connection of whose frame after 30 seconds fewer bytes a second have come than this: 0 (never) to 1048576; 1024 where it \
 isn't given"
         }
-        Number::Workers | Number::NodeWorkers => {
+        Number::Workers => {
             "How many threads give short answers, and as many long ones: 1 to 31; as many as processors where it isn't given"
         }
         Number::WriteSeconds => {
-            "End a connection that doesn't take its replies for so long: 0 (never) to 86400; 0 where it isn't given"
-        }
-        Number::NodeWriteSeconds => {
             "End a connection that doesn't take its replies for so long: 0 (never) to 86400; 30 where it isn't given"
         }
-        Number::IdleSeconds | Number::NodeIdleSeconds => {
+        _idle => {
             "End a connection that is silent between two frames for so long: 0 (never) to 86400; 0 where it isn't given"
         }
-        _changes => { "Print the front to standard error after each N changes, 1 to 1000000000" }
     }
 }
 
@@ -202,8 +172,7 @@ fn help_of_messages(number: Number) -> &'static str {
             "The latest version of requests that is sent: 1 or 2; 1 where it isn't given"
         }
         Number::PartsBytes => {
-            "How many bytes all connections keep at most, with --messages 2; 1073741824 where it isn't given. With --read-port or --read-socket half is for \
-their connections"
+            "How many bytes all connections keep at most, with --messages 2; 1073741824 where it isn't given"
         }
         other => help_of_links(other),
     }
@@ -246,16 +215,14 @@ fn range_of(number: Number) -> Range {
         Number::Streams | Number::OrStreams => Range::Within(1, 64),
         Number::ServeStreams => Range::Signed(1, 64),
         Number::Links | Number::NodeLinks => Range::Signed(1, 65_535),
-        Number::Port | Number::FeedPort | Number::ReadPort | Number::NodeReadPort => Range::Within(
-            1, 65_535,
-        ),
+        Number::Port | Number::FeedPort | Number::ReadPort => Range::Within(1, 65_535),
         Number::ServePort | Number::NodePort => Range::Signed(0, 65_535),
-        Number::FeedLinks | Number::NodeFeedLinks => Range::Within(1, 65_535),
-        Number::ReadLinks | Number::NodeReadLinks => Range::Within(1, 65_535),
-        Number::Workers | Number::NodeWorkers => Range::Within(1, 31),
-        Number::WriteSeconds | Number::NodeWriteSeconds => Range::Within(0, 86_400),
-        Number::IdleSeconds | Number::NodeIdleSeconds => Range::Within(0, 86_400),
-        Number::ReadRate | Number::NodeReadRate => Range::Within(0, 1_048_576),
+        Number::FeedLinks => Range::Within(1, 65_535),
+        Number::ReadLinks => Range::Within(1, 65_535),
+        Number::Workers => Range::Within(1, 31),
+        Number::WriteSeconds => Range::Within(0, 86_400),
+        Number::IdleSeconds => Range::Within(0, 86_400),
+        Number::ReadRate => Range::Within(0, 1_048_576),
         Number::Batch => Range::Within(1, 65_536),
         Number::Time | Number::OrTime | Number::At | Number::Horizon => {
             Range::Within(0, 4_611_686_018_427_387_904)
@@ -264,10 +231,8 @@ fn range_of(number: Number) -> Range {
         Number::Table => Range::Within(0, 65_535),
         Number::Tag => Range::Within(0, 4_294_967_295),
         Number::ConnectSeconds | Number::ReadSeconds => Range::Within(0, 86_400),
-        Number::NodeReadSeconds => Range::Within(0, 86_400),
         Number::ReplySeconds | Number::OrReplySeconds => Range::Within(0, 86_400),
         Number::Messages | Number::SentMessages => Range::Within(1, 2),
-        Number::ReportChanges | Number::NodeReportChanges => Range::Within(1, 1_000_000_000),
         _any => Range::Any,
     }
 }
@@ -275,29 +240,22 @@ fn range_of(number: Number) -> Range {
 /// What is said of a node that is asked, and so not beside a log.
 const NO_NODE: &[&str] = &["port", "node", "connect-seconds", "reply-seconds"];
 
-/// When it has to be given. `node` always stays, so what it has needs no word for that.
+/// When it has to be given.
 fn need_of(number: Number) -> Need {
     match number {
         Number::OrLog => Need::with(&["streams"]).and_without(NO_NODE),
         Number::OrStreams => Need::with(&["log"]),
         Number::PartsBytes => Need::with(&["messages"]),
         Number::Wait => Need::without(&["log"]),
-        Number::ReadSeconds | Number::ReportChanges | Number::Workers => Need::with(&["stay"]),
-        Number::WriteSeconds | Number::IdleSeconds | Number::ReadRate => Need::with(&["stay"]),
-        Number::FeedPort => Need::with(&["stay", "feed-links"]),
-        Number::FeedLinks => Need::with(&["stay", "feed-port"]),
-        Number::ReadPort => Need::with(&["stay", "read-links"]),
-        Number::ReadLinks => Need::with(&["stay", "read-port"]),
-        Number::NodeFeedPort => Need::with(&["feed-links"]),
-        Number::NodeFeedLinks => Need::with(&["feed-port"]),
-        Number::NodeReadPort => Need::with(&["read-links"]),
-        Number::NodeReadLinks => Need::with(&["read-port"]),
+        Number::FeedPort => Need::with(&["feed-links"]),
+        Number::FeedLinks => Need::with(&["feed-port"]),
+        Number::ReadPort => Need::with(&["read-links"]),
+        Number::ReadLinks => Need::with(&["read-port"]),
         Number::Port | Number::Batch | Number::OrTime | Number::At => Need::never(),
         Number::ConnectSeconds | Number::ReplySeconds | Number::OrReplySeconds => Need::never(),
         Number::Messages | Number::SentMessages | Number::NodePort => Need::never(),
-        Number::NodeLinks | Number::NodeReadSeconds | Number::NodeReportChanges => Need::never(),
-        Number::NodeWorkers | Number::NodeWriteSeconds | Number::NodeIdleSeconds => Need::never(),
-        Number::NodeReadRate => Need::never(),
+        Number::NodeLinks | Number::ReadSeconds | Number::ReadRate => Need::never(),
+        Number::Workers | Number::WriteSeconds | Number::IdleSeconds => Need::never(),
         _always => Need::always(),
     }
 }
@@ -330,16 +288,15 @@ pub(crate) fn node_numbers() -> &'static [Number] {
         Number::ServeStreams,
         Number::NodePort,
         Number::NodeLinks,
-        Number::NodeFeedPort,
-        Number::NodeFeedLinks,
-        Number::NodeReadPort,
-        Number::NodeReadLinks,
-        Number::NodeReadSeconds,
-        Number::NodeReadRate,
-        Number::NodeWriteSeconds,
-        Number::NodeIdleSeconds,
-        Number::NodeWorkers,
-        Number::NodeReportChanges,
+        Number::FeedPort,
+        Number::FeedLinks,
+        Number::ReadPort,
+        Number::ReadLinks,
+        Number::ReadSeconds,
+        Number::ReadRate,
+        Number::WriteSeconds,
+        Number::IdleSeconds,
+        Number::Workers,
     ]
 }
 
@@ -352,43 +309,5 @@ pub(crate) fn serve_numbers() -> &'static [Number] {
         Number::Links,
         Number::Messages,
         Number::PartsBytes,
-    ]
-}
-
-/// Those of a long-running node.
-pub(crate) fn stay_numbers() -> &'static [Number] {
-    &[
-        Number::ReadSeconds,
-        Number::ReadRate,
-        Number::WriteSeconds,
-        Number::IdleSeconds,
-        Number::FeedPort,
-        Number::FeedLinks,
-        Number::ReadPort,
-        Number::ReadLinks,
-        Number::Workers,
-        Number::ReportChanges,
-    ]
-}
-
-/// Both, in the order in which a bad word is looked for.
-pub(crate) fn serve_words() -> &'static [Number] {
-    &[
-        Number::Log,
-        Number::ServeStreams,
-        Number::ServePort,
-        Number::Links,
-        Number::Messages,
-        Number::PartsBytes,
-        Number::FeedPort,
-        Number::FeedLinks,
-        Number::ReadPort,
-        Number::ReadLinks,
-        Number::ReadSeconds,
-        Number::ReadRate,
-        Number::WriteSeconds,
-        Number::IdleSeconds,
-        Number::Workers,
-        Number::ReportChanges,
     ]
 }

@@ -207,7 +207,7 @@ command' or 'ended N' with N above 0 was printed, where 'frames', 'rewrite' or '
 which only standard error shows, or where a write failed; 2 for a bad command line.";
 
 pub(crate) const SERVE_ABOUT: &str =
-    "Start a node, and serve connections to it on a port of 127.0.0.1; with --stay without an end";
+    "Start a node, and serve so many connections to it on a port of 127.0.0.1";
 
 pub(crate) const SERVE_LONG_ABOUT: &str =
     "Start a node, and serve connections to it on a port of 127.0.0.1.
@@ -222,22 +222,14 @@ With --messages 2 it answers messages of version 2 too: full snapshots in chunks
 and pins, which end with their connection. What the connections keep for these is at most --link-bytes, \
 all together; what would be more is refused 46.
 
-With --stay it serves connections without an end, --links of them at once: a further one waits until one ends. \
-It prints 'ended' and a number as each connection ends. --read-port opens a second port, whose connections \
-may ask and not change, --feed-port a further one, whose connections may send items and ask; --socket and --read-socket \
-open Unix domain sockets for its own user. \
-NOTHING IS ENCRYPTED OR AUTHENTICATED: whoever reaches the port may write. Give \
---address only behind a proxy that does both (docs/OPERATING.md).";
+NOTHING IS ENCRYPTED OR AUTHENTICATED. A node that serves without an end is started by 'hkrep node'.";
 
 pub(crate) const SERVE_EXAMPLE: &str = "Example, a node and a feeder:
   hkrep serve --log 7 --streams 1 --port 7426 --links 1 &
   hkrep push --port 7426 < examples/links/first.bin
 The node prints 'listening 7426' once connections can be opened. The feeder sends two items and asks \
 for a row: it prints 'done 2' and '9 41'. When the connections have ended, the node prints 'ended 0' for \
-each, or the number of what ended it.
-
-A long-running node, with a port of its own for readers:
-  hkrep serve --stay --log 7 --streams 1 --port 7426 --links 40 --read-port 7427 --read-links 20 &";
+each, or the number of what ended it.";
 
 pub(crate) const NODE_ABOUT: &str =
     "Start a node that runs until it is ended, on port 7420 of 127.0.0.1, with what another node or a file has";

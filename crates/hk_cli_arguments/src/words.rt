@@ -2,7 +2,7 @@
 
 use crate::argument::{Description, Need, Range, Shape};
 
-/// An argument that is no number. Those of a name that begins with `Stay` are of `serve`, and but for `Stay` itself need `--stay`.
+/// An argument that is no number.
 #[derive(Clone, Copy)]
 pub(crate) enum Word {
     Json,
@@ -18,13 +18,7 @@ pub(crate) enum Word {
     Wait,
     Stats,
     Tables,
-    Stay,
     Guard,
-    StayQuiet,
-    StayVerbose,
-    StayListening,
-    StaySocket,
-    StayReadSocket,
     Sources,
     Load,
     LoadOrEmpty,
@@ -42,17 +36,16 @@ pub(crate) enum Word {
 /// The name that an option of a node that is started is read back by.
 fn name_of_serving(word: Word) -> &'static str {
     match word {
-        Word::Stay => "stay",
         Word::Guard => "guard",
-        Word::Quiet | Word::StayQuiet => "quiet",
-        Word::Verbose | Word::StayVerbose => "verbose",
+        Word::Quiet => "quiet",
+        Word::Verbose => "verbose",
         Word::Load => "load",
         Word::LoadOrEmpty => "load-or-empty",
         Word::NeedData => "need-data",
         Word::NoGuard => "no-guard",
         Word::PartsBytes => "link-bytes",
-        Word::Socket | Word::StaySocket => "socket",
-        Word::ReadSocket | Word::StayReadSocket => "read-socket",
+        Word::Socket => "socket",
+        Word::ReadSocket => "read-socket",
         Word::LogFormat => "log-format",
         _listening => "address",
     }
@@ -87,14 +80,14 @@ fn value_of(word: Word) -> &'static str {
         Word::Refusal => "NUMBER",
         Word::Sources => "NODE",
         Word::PartsBytes => "BYTES",
-        Word::Socket | Word::ReadSocket | Word::StaySocket | Word::StayReadSocket => "PATH",
-        Word::Listening | Word::StayListening => "A",
+        Word::Socket | Word::ReadSocket => "PATH",
+        Word::Listening => "A",
         Word::LogFormat => "FORMAT",
         _flag => "",
     }
 }
 
-/// The help of an option of `node`, some of which `serve` has too.
+/// The help of an option of `node`.
 fn help_of_node(word: Word) -> &'static str {
     match word {
         Word::Sources => {
@@ -112,10 +105,10 @@ where one is there and none is whole, end with status 1"
         Word::LogFormat => {
             "How the lines on standard error are written: text, or json, an object a line; text where it isn't given"
         }
-        Word::Socket | Word::StaySocket => {
+        Word::Socket => {
             "Also serve as many connections over a Unix domain socket of this path; a file there that nobody listens on is replaced"
         }
-        Word::ReadSocket | Word::StayReadSocket => "The same for connections that may only read",
+        Word::ReadSocket => "The same for connections that may only read",
         _parts => {
             "How many bytes all connections keep at most, in snapshots in chunks and between socket and session: N, or P% of the \
 memory; 25% where it isn't given, and at least 268435456. With --read-port or --read-socket half is for their connections"
@@ -126,17 +119,12 @@ memory; 25% where it isn't given, and at least 268435456. With --read-port or --
 /// The help of an option of a node that is started.
 fn help_of_serving(word: Word) -> &'static str {
     match word {
-        Word::Stay => "Serve connections without an end, so many at once",
         Word::Guard => {
             "Test each change first: one that conflicts is refused 23, and changes nothing"
         }
-        Word::Quiet | Word::StayQuiet => {
-            "Print faults alone to standard error, and not each connection"
-        }
-        Word::Verbose | Word::StayVerbose => {
-            "Print each change that takes effect to standard error, too"
-        }
-        Word::Listening | Word::StayListening => {
+        Word::Quiet => { "Print faults alone to standard error, and not each connection" }
+        Word::Verbose => { "Print each change that takes effect to standard error, too" }
+        Word::Listening => {
             "Where the ports are opened, in place of 127.0.0.1. Nothing is encrypted or authenticated"
         }
         other => help_of_node(other),
@@ -186,12 +174,11 @@ fn shape_of(word: Word) -> Shape {
     match word {
         Word::Refusal => Shape::Position,
         Word::Address | Word::Items | Word::Out | Word::From => Shape::Option,
-        Word::PartsBytes | Word::Listening | Word::StayListening => Shape::Option,
+        Word::PartsBytes | Word::Listening => Shape::Option,
         Word::Socket | Word::ReadSocket | Word::LogFormat => Shape::Option,
-        Word::StaySocket | Word::StayReadSocket => Shape::Option,
         Word::Sources | Word::Load => Shape::Options,
-        Word::Quiet | Word::StayQuiet => Shape::Letter('q'),
-        Word::Verbose | Word::StayVerbose => Shape::Letter('v'),
+        Word::Quiet => Shape::Letter('q'),
+        Word::Verbose => Shape::Letter('v'),
         _flag => Shape::Flag,
     }
 }
@@ -215,9 +202,6 @@ fn need_of(word: Word) -> Need {
         Word::Text => Need::without(&["hex"]),
         Word::Stats | Word::Tables => Need::without(&["log"]),
         Word::Verbose => Need::without(&["quiet"]),
-        Word::StayVerbose => Need::with(&["stay"]).and_without(&["quiet"]),
-        Word::StayQuiet | Word::StayListening => Need::with(&["stay"]),
-        Word::StaySocket | Word::StayReadSocket => Need::with(&["stay"]),
         _other => Need::never(),
     }
 }

@@ -82,16 +82,12 @@ pub struct Stay<'a> {
     pub idle_seconds: u64,
     /// Whether each change is tested before it is added, so that none makes the node fail.
     pub is_guarded: bool,
-    /// How many bytes all connections keep at most, where messages of both versions are answered; without it those of version 1
-    /// alone are.
-    pub parts: Option<PartsLimit>,
+    /// How many bytes all connections keep at most.
+    pub parts: PartsLimit,
     /// What is reported of connections.
     pub level: Level,
-    /// After how many changes the node's front is printed each time; 0 is never.
-    pub report_changes: u64,
     /// Whether its lines on standard error are JSON.
     pub in_json: bool,
-    /// What it has before it listens, as `node`: it prints one line of what it opened, and its other lines have the time, how grave
-    /// they are, and the peer's address. None as `serve --stay`.
-    pub start: Option<Start<'a>>,
+    /// What it has before it listens.
+    pub start: Start<'a>,
 }

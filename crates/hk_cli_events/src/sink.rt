@@ -16,8 +16,6 @@ use std::rt::Clock;
 /// How a record stands in its line.
 #[derive(Clone, Copy, Debug, PartialEq, Eq)]
 pub enum LineForm {
-    /// Its words alone.
-    Words,
     /// The time, the level, the peer's address or a dash, and the words.
     Dated,
     /// An object of JSON: the time, the level, each pair, and the words.
@@ -106,15 +104,13 @@ impl<'c, C: Clock, W: Write> LineSink<'c, C, W> {
     ) -> Result<String, AllocError> {
         let mut line = String::new(self.alloc);
         match self.form {
-            LineForm::Words => {}
-            LineForm::Dated => self.put_head(record, &mut line)?,
-            LineForm::Json => {
-                put_object(self.alloc, millis_now(self.clock), record, &mut line)?;
-                return Ok(line);
+            LineForm::Dated => {
+                self.put_head(record, &mut line)?;
+                let words = record.args();
+                writeln!(line, "{words}")?;
             }
+            LineForm::Json => put_object(self.alloc, millis_now(self.clock), record, &mut line)?,
         }
-        let words = record.args();
-        writeln!(line, "{words}")?;
         Ok(line)
     }
 }

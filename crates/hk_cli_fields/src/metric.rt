@@ -4,8 +4,8 @@ ghost use Rattle.std.specs.Prelude.{◌≡◌, ◌++◌, OnOk};
 ghost use Rattle.std.specs.String.{string_bytes};
 ghost use Rattle.hk_cli_fields.specs.Metrics as spec;
 
+use hk_answers::{Metric, metric_names as names};
 use hk_types::Table;
-use hk_values::{Metric, metric_names as names};
 use std::alloc::AllocError;
 
 /// The word of a metric of what the node holds and did, and nothing for a name that has none.

@@ -10,6 +10,7 @@ use hk_cli_reasons::{Origin, Place, RequestContext};
 use hk_codec::{ItemFormat, ItemOutline, OutlineFormat, pieces_join};
 use hk_frames::{Format, FrameFeeder};
 use hk_log::{Item, Spare};
+use hk_message_head::request_kinds::request_kind;
 use hk_types::{Refusal, StreamNo};
 use std::alloc::Global;
 use std::io::Read;
@@ -120,9 +121,9 @@ pub fn kind_at_head(piece: &[u8]) -> u8
 
 /// What was asked where the first frame of an input has this kind, and is no item.
 fn asked_at_head(kind: u8) -> RequestContext {
-    match kind {
-        16..=23 | 48..=61 => RequestContext::RequestsAsItems,
-        _other => RequestContext::Nothing,
+    match request_kind(kind) {
+        Some(_row) => RequestContext::RequestsAsItems,
+        None => RequestContext::Nothing,
     }
 }
 

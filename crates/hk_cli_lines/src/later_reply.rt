@@ -8,8 +8,8 @@ ghost use Rattle.hk_cli_fields.specs.LaterReplies as spec;
 
 use crate::line::{Printed, put_rows};
 use hk_cli_fields::{put_fed, put_held, put_ready, put_stats, put_streams, put_tables};
+use hk_messages::LaterReply;
 use hk_model::Page;
-use hk_wire::LaterReply;
 use std::alloc::{AllocError, Global};
 
 fn put_more(more: bool, out: &mut String) -> Result<(), AllocError>

@@ -5,7 +5,7 @@ ghost use Rattle.hk_cli_fields.specs.Replies as spec;
 
 use crate::line::Printed;
 use hk_cli_fields::{put_front, put_part};
-use hk_wire::Reply;
+use hk_messages::Reply;
 use std::alloc::{AllocError, Global};
 
 impl Printed for Reply {

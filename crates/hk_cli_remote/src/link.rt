@@ -7,11 +7,12 @@ use crate::stream::Stream;
 use hk_cli_calls::Limits;
 use hk_cli_input::{LinkFault, MOST_READS, PIECE_BYTES, Peer, Stop};
 use hk_cli_reasons::{Origin, Place, RequestContext};
+use hk_encodings::encode_request;
 use hk_fragment::Fragment;
 use hk_log::Item;
+use hk_messages::{LaterReply, LaterRequest, Reply, ReplyFeeder, Request};
 use hk_model::Front;
 use hk_types::{FormFault, Refusal};
-use hk_wire::{LaterReply, LaterRequest, Reply, ReplyFeeder, Request, encode_request};
 use std::alloc::Global;
 use std::io;
 use std::io::{ErrorKind, Stderr};
@@ -48,8 +49,8 @@ pub(crate) fn asked_of(request: &Request) -> RequestContext {
         Request::Delta { base } | Request::Later(LaterRequest::Whole { base, .. }) => {
             RequestContext::At(*base)
         }
-        Request::Later(LaterRequest::Page { t, .. } | LaterRequest::Hold { t }) =>
-            RequestContext::At(*t),
+        Request::Later(LaterRequest::Hold { t }) => RequestContext::At(*t),
+        Request::Later(LaterRequest::Page(of)) => RequestContext::At(of.time),
         _other => RequestContext::Nothing,
     }
 }

@@ -1,14 +1,14 @@
 //! A node's numbers, and the tables that it holds anything of.
 
 use crate::link::{Link, unasked};
+use hk_answers::Metric;
 use hk_cli_calls::OutputForm;
 use hk_cli_commands::Output;
+use hk_cli_fields::metric_word;
 use hk_cli_input::Stop;
 use hk_cli_json::{MetricLine, TableLine};
-use hk_cli_lines::metric_word;
+use hk_messages::{LaterReply, LaterRequest};
 use hk_types::{FormFault, Refusal, Table};
-use hk_values::Metric;
-use hk_wire::{LaterReply, LaterRequest};
 use std::io::Write;
 
 /// The line where a node reads no request of version 2.

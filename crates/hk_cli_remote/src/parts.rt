@@ -2,10 +2,10 @@
 
 use crate::link::{Link, unasked};
 use hk_cli_input::Stop;
+use hk_fragment_bytes::FragmentHead;
 use hk_log::Version;
+use hk_messages::{LaterReply, LaterRequest};
 use hk_types::{FormFault, Refusal, Time, VersionKey};
-use hk_values::FragmentHead;
-use hk_wire::{LaterReply, LaterRequest};
 
 /// Whether a fragment was refused since a message has no room for it.
 pub(crate) fn is_too_long(why: &Refusal) -> bool {

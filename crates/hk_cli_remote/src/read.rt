@@ -4,11 +4,12 @@ use crate::link::{Link, front_of, unasked};
 use crate::parts::{Parts, hand_parts, taking};
 use hk_cli_commands::{Output, put_status};
 use hk_cli_input::Stop;
+use hk_encodings::encode_request;
 use hk_fragment::Fragment;
 use hk_log::Version;
+use hk_messages::{LaterReply, LaterRequest, Reply, Request};
 use hk_model::{Answer, Front, Query};
 use hk_types::{FormFault, Refusal, Time, VersionKey};
-use hk_wire::{LaterReply, LaterRequest, Reply, Request, encode_request};
 use std::alloc::Global;
 use std::io::Write;
 

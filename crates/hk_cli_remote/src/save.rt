@@ -9,10 +9,11 @@ use hk_cli_input::Stop;
 use hk_cli_json::FragmentSummary;
 use hk_cli_reasons::RequestContext;
 use hk_cli_sums::{Checksum, sum_frame};
+use hk_encodings::encode_request;
 use hk_fragment::Fragment;
 use hk_log::Version;
+use hk_messages::{LaterRequest, Request};
 use hk_types::{Refusal, Time, VersionKey};
-use hk_wire::{LaterRequest, Request, encode_request};
 use std::alloc::Global;
 use std::io::Write;
 

@@ -56,6 +56,10 @@ version_text version (Closed k) = head_text version 2 k.log k.stream ++ mark_tex
 abbrev pub rest_behind : ℕ → ℕ → Item → List ℕ
 rest_behind rest version item = number w32 rest ++ version_text version item
 
+-- that of an entry
+abbrev pub entry_rest : ℕ → ℕ → EntryValue → List ℕ
+entry_rest rest version e = rest_behind rest version (Commit e)
+
 -- what comes after the length
 abbrev pub rest_text : WrittenItem → List ℕ
 rest_text w = version_text w.version w.item

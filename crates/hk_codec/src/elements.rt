@@ -116,12 +116,12 @@ impl Elements for Ends {
     // The numbers are read for the bounds that their types state.
     #[tactic(auto, using(crate::proofs::Lengths::keyed_end_len))]
     fn len_of(end: &VersionKey) -> u32 {
-        let _known = end.table.number();
-        let _known = end.key.number();
+        let _in_range = end.table.number();
+        let _in_range = end.key.number();
         16
     }
 
-    #[tactic(auto, using(hk_frames::proofs::Prefix::kept_all), unfolding(crate::specs::Encoding::keyed_end_text, hk_frames::specs::Fields::number))]
+    #[tactic(auto, using(hk_frames::proofs::Put::all), unfolding(crate::specs::Encoding::keyed_end_text, hk_frames::specs::Fields::number))]
     fn put(out: &mut Vec<u8>, end: &VersionKey) -> Result<(), AllocError> {
         let key = end.key.number().to_be_bytes();
         let born = end.born.number().to_be_bytes();
@@ -179,13 +179,13 @@ impl Elements for Rows {
     // The numbers are read for the bounds that their types state.
     #[tactic(auto, using(crate::proofs::Lengths::keyed_row_len))]
     fn len_of(row: &(Table, Key, Row)) -> u32 {
-        let _known = row.0.number();
-        let _known = row.1.number();
-        let _known = row.2.tag().number();
+        let _in_range = row.0.number();
+        let _in_range = row.1.number();
+        let _in_range = row.2.tag().number();
         14 + row.2.body().len() as u32
     }
 
-    #[tactic(auto, using(std::proofs::Common::append_assoc, hk_frames::proofs::Prefix::kept_all, hk_frames::proofs::Prefix::kept_before), unfolding(crate::specs::Encoding::keyed_row_text, hk_frames::specs::Fields::number))]
+    #[tactic(auto, using(hk_frames::proofs::Put::all), unfolding(crate::specs::Encoding::keyed_row_text, hk_frames::specs::Fields::number))]
     fn put(out: &mut Vec<u8>, row: &(Table, Key, Row)) -> Result<(), AllocError> {
         let key = row.1.number().to_be_bytes();
         let tag = row.2.tag().number().to_be_bytes();

@@ -10,7 +10,7 @@ use crate::kept_lists::VERSION_1;
 use crate::list_encoding::{list_len, put_list};
 use crate::reading::{ENTRY_KIND, MARK_KIND, VERSION_2};
 use hk_frames::LENGTH_BYTES;
-use hk_log::{Item, Mark};
+use hk_log::{Entry, Item, Mark};
 use hk_types::{Refusal, StreamNo};
 use std::alloc::AllocError;
 
@@ -58,33 +58,40 @@ fn rest_len(item: &Item, version: u8) -> u32
             28 + ends + rows
         }
         Item::Closed(mark) => {
-            let _known = mark.n();
+            let _in_range = mark.n();
             28
         }
     }
 }
 
+/// Adds an entry in a version behind the length of its rest, which is given.
+#[tactic(auto, using(hk_frames::proofs::Put::all), unfolding(crate::specs::Encoding::version_text, crate::specs::Encoding::entry_text))]
+fn put_entry(out: &mut Vec<u8>, rest: u32, version: u8, entry: &Entry) -> Result<(), AllocError>
+    ensures ok { OnOk result (out.new.items ≡ out.old.items ++ spec.entry_rest rest version entry.now) }
+    ensures kept { OnErr result (take (length out.old.items) out.new.items ≡ out.old.items) }
+{
+    let numbers = (entry.number(), entry.time().number());
+    put_front(
+        out,
+        rest,
+        version,
+        ENTRY_KIND,
+        entry.log(),
+        entry.stream(),
+        numbers,
+    )?;
+    put_list::<Ends>(out, version, entry.ends())?;
+    put_list::<Rows>(out, version, entry.rows())
+}
+
 /// Adds the item in a version behind the length of its rest, which is given.
-#[tactic(auto, using(std::proofs::Common::append_assoc, hk_frames::proofs::Prefix::kept_all, hk_frames::proofs::Prefix::kept_before, hk_frames::proofs::Prefix::kept_both), unfolding(crate::specs::Encoding::version_text, crate::specs::Encoding::entry_text, crate::specs::Encoding::mark_text))]
+#[tactic(auto, using(hk_frames::proofs::Put::all), unfolding(crate::specs::Encoding::version_text, crate::specs::Encoding::mark_text))]
 fn put_rest(out: &mut Vec<u8>, rest: u32, version: u8, item: &Item) -> Result<(), AllocError>
     ensures ok { OnOk result (out.new.items ≡ out.old.items ++ spec.rest_behind rest version item.now) }
     ensures kept { OnErr result (take (length out.old.items) out.new.items ≡ out.old.items) }
 {
     match item {
-        Item::Commit(entry) => {
-            let numbers = (entry.number(), entry.time().number());
-            put_front(
-                out,
-                rest,
-                version,
-                ENTRY_KIND,
-                entry.log(),
-                entry.stream(),
-                numbers,
-            )?;
-            put_list::<Ends>(out, version, entry.ends())?;
-            put_list::<Rows>(out, version, entry.rows())
-        }
+        Item::Commit(entry) => put_entry(out, rest, version, entry),
         Item::Closed(mark) => {
             let numbers = (mark.n(), mark.m().number());
             put_front(
@@ -112,7 +119,7 @@ pub fn frame_len(item: &Item) -> u32
 }
 
 /// Adds the item's frame in a version.
-#[tactic(auto, using(std::proofs::Common::append_assoc, hk_frames::proofs::Prefix::kept_all, hk_frames::proofs::Prefix::kept_before, hk_frames::proofs::Prefix::kept_both), unfolding(hk_frames::specs::Framing::encoded))]
+#[tactic(auto, using(hk_frames::proofs::Put::all), unfolding(hk_frames::specs::Framing::encoded))]
 fn put_version(out: &mut Vec<u8>, version: u8, item: &Item) -> Result<(), AllocError>
     requires { (version ≡ 1) ⊎ (version ≡ 2) }
     ensures ok { OnOk result (out.new.items ≡ out.old.items ++ encoding_of version item.now) }

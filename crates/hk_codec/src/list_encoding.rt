@@ -108,7 +108,7 @@ pub(crate) fn list_len<E: Elements>(version: u8, elements: &[E::Value]) -> u32
 }
 
 /// Adds the elements one by one behind their count.
-#[tactic(auto, using(std::proofs::Common::append_assoc, hk_frames::proofs::Prefix::kept_all, hk_frames::proofs::Prefix::kept_before, hk_frames::proofs::Prefix::kept_both), unfolding(crate::specs::Lists::counted_text))]
+#[tactic(auto, using(hk_frames::proofs::Put::all), unfolding(crate::specs::Lists::counted_text))]
 fn put_counted<E: Elements>(out: &mut Vec<u8>, elements: &[E::Value]) -> Result<(), AllocError>
     requires { length elements.now ≤ 1024 }
     ensures ok { OnOk result (out.new.items ≡ out.old.items ++ spec.counted_text E.place E.text elements.now) }
@@ -122,7 +122,7 @@ fn put_counted<E: Elements>(out: &mut Vec<u8>, elements: &[E::Value]) -> Result<
 }
 
 /// Adds an element behind its table.
-#[tactic(auto, using(std::proofs::Common::append_assoc, hk_frames::proofs::Prefix::kept_all, hk_frames::proofs::Prefix::kept_before, hk_frames::proofs::Prefix::kept_both), unfolding(crate::specs::Lists::tabled_text))]
+#[tactic(auto, using(hk_frames::proofs::Put::all), unfolding(crate::specs::Lists::tabled_text))]
 fn put_tabled<E: Elements>(out: &mut Vec<u8>, element: &E::Value) -> Result<(), AllocError>
     ensures ok { OnOk result (out.new.items ≡ out.old.items ++ spec.tabled_text E.place E.text element.now) }
     ensures kept { OnErr result (take (length out.old.items) out.new.items ≡ out.old.items) }
@@ -133,7 +133,7 @@ fn put_tabled<E: Elements>(out: &mut Vec<u8>, element: &E::Value) -> Result<(), 
 }
 
 /// Adds the elements without their tables.
-#[tactic(auto, using(std::proofs::Common::append_assoc, hk_frames::proofs::Prefix::kept_all, hk_frames::proofs::Prefix::kept_before, hk_frames::proofs::Prefix::kept_both))]
+#[tactic(auto, using(hk_frames::proofs::Put::all))]
 fn put_elements<E: Elements>(out: &mut Vec<u8>, elements: &[E::Value]) -> Result<(), AllocError>
     ensures ok { OnOk result (out.new.items ≡ out.old.items ++ flat_map E.text elements.now) }
     ensures kept { OnErr result (take (length out.old.items) out.new.items ≡ out.old.items) }
@@ -145,7 +145,7 @@ fn put_elements<E: Elements>(out: &mut Vec<u8>, elements: &[E::Value]) -> Result
 }
 
 /// Adds a group of this table.
-#[tactic(auto, using(std::proofs::Common::append_assoc, hk_frames::proofs::Prefix::kept_all, hk_frames::proofs::Prefix::kept_before, hk_frames::proofs::Prefix::kept_both), unfolding(crate::specs::Lists::group_text))]
+#[tactic(auto, using(hk_frames::proofs::Put::all), unfolding(crate::specs::Lists::group_text))]
 fn put_group<E: Elements>(
     out: &mut Vec<u8>,
     table: Table,
@@ -161,7 +161,7 @@ fn put_group<E: Elements>(
 }
 
 /// Adds a group of this table behind a count of groups, which is one.
-#[tactic(auto, using(std::proofs::Common::append_assoc, hk_frames::proofs::Prefix::kept_all, hk_frames::proofs::Prefix::kept_before, hk_frames::proofs::Prefix::kept_both), unfolding(crate::specs::Lists::group_text, hk_frames::specs::Fields::number))]
+#[tactic(auto, using(hk_frames::proofs::Put::all), unfolding(crate::specs::Lists::group_text, hk_frames::specs::Fields::number))]
 fn put_one_group<E: Elements>(
     out: &mut Vec<u8>,
     table: Table,
@@ -178,7 +178,7 @@ fn put_one_group<E: Elements>(
 }
 
 /// Adds the elements in groups behind the count of these.
-#[tactic(auto, using(std::proofs::Common::append_assoc, hk_frames::proofs::Prefix::kept_all, hk_frames::proofs::Prefix::kept_before, hk_frames::proofs::Prefix::kept_both), unfolding(crate::specs::Lists::grouped_text))]
+#[tactic(auto, using(hk_frames::proofs::Put::all), unfolding(crate::specs::Lists::grouped_text))]
 fn put_groups<E: Elements>(out: &mut Vec<u8>, elements: &[E::Value]) -> Result<(), AllocError>
     requires { length elements.now ≤ 1024 }
     ensures ok { OnOk result (out.new.items ≡ out.old.items ++ spec.grouped_text E.place E.text elements.now) }

@@ -123,7 +123,7 @@ fn read_entry(
     let (ends_room, rows_room) = spare.take(alloc);
     let ends = read_ends(alloc, cursor, head.version, time, ends_room)?;
     let rows = read_rows(alloc, cursor, head.version, time, ends.len(), rows_room)?;
-    let _known = head.stream.number();
+    let _in_range = head.stream.number();
     Ok(Entry::of_parts(head.log, head.stream, number, time, ends, rows))
 }
 

@@ -77,7 +77,7 @@ taken_more (y ∷ ys) c d x e = by (take_result c y) refl (λ h. taken_more ys (
 
 -- ---- what is learnt
 
-took_is : (c : Content) (x : Item) → took c x ≡ cond (tells_nothing c.streams x) Repeated Taken
+pub took_is : (c : Content) (x : Item) → took c x ≡ cond (tells_nothing c.streams x) Repeated Taken
 took_is c (Commit e) = refl
 took_is c (Closed m) = refl
 

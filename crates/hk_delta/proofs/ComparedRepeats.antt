@@ -95,6 +95,20 @@ absorbed_so true c items d e = by (absorb_all c items) e
         choose true e = absurd (cc)
         choose false e = e
 
+-- an entry of which each row and each end is found stands as it is told
+pub as_found : (rows : VersionKey → Option RowValue) (ends : VersionKey → Option ℕ) (e : EntryValue) → ((p : ℕ × ℕ × RowValue) → In p e.rows → rows (inserted_version e.time p).0 ≡ Some p.2) → ((v : VersionKey) → In v e.ends → ends v ≡ Some e.time)
+    → (list_any (lacks_row rows e.time) e.rows || list_any (lacks_end ends e.time) e.ends) ≡ false
+as_found rows ends e row_there end_there =
+    let all_rows = not_from (list_any (lacks_row rows e.time) e.rows) (λ y.
+    let w = any_where (lacks_row rows e.time) e.rows y in
+    true≢false (sym w.2 ∙ ap (λ x. not (same_shown x (Some w.0.2))) (row_there w.0 w.1) ∙ ap not (same_itself (Some w.0.2))))
+    in
+    let all_ends = not_from (list_any (lacks_end ends e.time) e.ends) (λ y.
+    let w = any_where (lacks_end ends e.time) e.ends y in
+    true≢false (sym w.2 ∙ ap (λ x. not (is_end x e.time)) (end_there w.0 w.1) ∙ ap not (eq-eqb e.time e.time refl)))
+    in
+    λ i. all_rows i || all_ends i
+
 -- ---- one history
 
 stays_row : (g born : ℕ) (a : Option ℕ) (x : Option RowValue) → ((d : ℕ) → a ≡ Some d → born < d) → g < born → cond (not (at_most g a)) x None ≡ x
@@ -126,16 +140,7 @@ module _ (config : ConfigValue) (history : History) (is : IsHistory config histo
         ap (λ (x : Content). finmap.get x.ends v) s.is_content_of ∙ content_of_end config items g v ∙ ap (λ x. cond (not (at_most g x)) x None) here ∙ stays_end g e.time above
 
     as_it_is : (list_any (lacks_row (finmap.get d.rows) e.time) e.rows || list_any (lacks_end (finmap.get d.ends) e.time) e.ends) ≡ false
-    as_it_is =
-        let rows = not_from (list_any (lacks_row (finmap.get d.rows) e.time) e.rows) (λ y.
-        let w = any_where (lacks_row (finmap.get d.rows) e.time) e.rows y in
-        true≢false (sym w.2 ∙ ap (λ x. not (same_shown x (Some w.0.2))) (row_there w.0 w.1) ∙ ap not (same_itself (Some w.0.2))))
-        in
-        let ends = not_from (list_any (lacks_end (finmap.get d.ends) e.time) e.ends) (λ y.
-        let w = any_where (lacks_end (finmap.get d.ends) e.time) e.ends y in
-        true≢false (sym w.2 ∙ ap (λ x. not (is_end x e.time)) (end_there w.0 w.1) ∙ ap not (eq-eqb e.time e.time refl)))
-        in
-        λ i. rows i || ends i
+    as_it_is = as_found (finmap.get d.rows) (finmap.get d.ends) e row_there end_there
 
   -- an item that is represented stands as it is told
   pub stands_as_told : (item : Item) → In item items → stands_otherwise d item ≡ false

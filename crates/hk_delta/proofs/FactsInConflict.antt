@@ -87,7 +87,7 @@ module _ {X : Type 0} (same : X → X → Bool) (tells : (a b : X) → same a b 
           absurd (both_ways (same e.0.1 f.0.1) (not-true (same e.0.1 f.0.1) p.1) (ap (same e.0.1) (sym value) ∙ alike e.0.1))
       by false c = refl
 
-  same_there : (xs : List (VersionKey × X)) → conflict same xs ≡ false → (v : VersionKey) (x y : X) → In (v, x) xs → In (v, y) xs → same x y ≡ true
+  pub same_there : (xs : List (VersionKey × X)) → conflict same xs ≡ false → (v : VersionKey) (x y : X) → In (v, x) xs → In (v, y) xs → same x y ≡ true
   same_there xs none v x y i j = by (same x y) refl
     where
       by : (b : Bool) → same x y ≡ b → b ≡ true

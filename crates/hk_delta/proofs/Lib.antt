@@ -11,3 +11,4 @@ pub mod StreamsInTurn
 pub mod AgreedItems
 pub mod ComparedRepeats
 pub mod AddedItems
+pub mod NewItems

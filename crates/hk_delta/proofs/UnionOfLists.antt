@@ -40,7 +40,7 @@ module _ {X : Type 0} (same : X → X → Bool) (tells : (a b : X) → same a b 
   abbrev Agrees : List (VersionKey × X) → Type 0
   Agrees xs = (v : VersionKey) (x : X) → In (v, x) xs → finmap.get (mapped xs) v ≡ Some x
 
-  agree_at : (m n : finmap.FinMap version_key_cmp X) → maps_conflict same m n ≡ false → (v : VersionKey) → values_conflict same (finmap.get m v) (finmap.get n v) ≡ false
+  pub agree_at : (m n : finmap.FinMap version_key_cmp X) → maps_conflict same m n ≡ false → (v : VersionKey) → values_conflict same (finmap.get m v) (finmap.get n v) ≡ false
   agree_at m n none v = by (finmap.get m v) refl
     where
       false_from : (z : X) → finmap.get m v ≡ Some z → (b : Bool) → values_conflict same (finmap.get m v) (finmap.get n v) ≡ b → b ≡ false

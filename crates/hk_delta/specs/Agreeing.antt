@@ -15,13 +15,14 @@ use Rattle.hk_model.specs.Replica.Items.{wrong_log}
 use Rattle.hk_model.specs.Replica.Lawful.{IsItem, IsLawful}
 use Rattle.hk_model.specs.Replica.Maps.{maps_conflict}
 use Rattle.hk_model.specs.Replica.Replicas.{content_after_take}
-use Rattle.hk_model.specs.Replica.Rules.{took, take_result, with_items, join_result}
+use Rattle.hk_model.specs.Replica.Rules.{first_wrong_log, took, take_result, with_items, join_result}
 use Rattle.hk_model.specs.Replica.Touches.{join_touches_past}
 use Rattle.hk_model.specs.Replica.Streams.{StreamContent, stream_at, streams_of, all_together, adds_nothing}
 use Rattle.hk_store.specs.Facts.{conflicts_with_entry}
 use Rattle.hk_store.specs.Reads.{facts_of_content}
-use Rattle.hk_state.specs.Items.{facts_with}
+use Rattle.hk_state.specs.Items.{facts_with, log_of_content}
 use Rattle.hk_delta.specs.declared.agreeing.News.{News}
+use Rattle.hk_delta.specs.Gathers.{have_conflict}
 
 -- the content that an item left
 abbrev pub content_taken : Result (Took × Content) Refusal → Result Content Refusal
@@ -114,3 +115,30 @@ pub record IsLearnt (c : Content) (items : List Item) (n : News) : Type 0 where
 abbrev pub LearnsAll : Content → List Item → Result News Refusal → Type 0
 LearnsAll c items (Ok n) = IsLearnt c items n
 LearnsAll c items (Err why) = (absorb_all c items ≡ Err why) ⊎ (why ≡ Memory)
+
+-- ---- what is all new
+
+-- whether an item contradicts a content, or comes too late for these streams
+abbrev pub contradicts_content : Content → List StreamContent → Item → Bool
+contradicts_content c streams (Commit e) = nat_le e.time (stream_at streams e.stream).closed || conflicts_with_entry (facts_of_content c) e
+contradicts_content c streams (Closed m) = false
+
+-- an item of the log tells the streams something new and contradicts the content nowhere, and the streams have it now
+abbrev pub IsNew : Content → List StreamContent → List StreamContent → Item → Type 0
+IsNew c old new item =
+    (wrong_log c.log (length c.streams) item ≡ None) × IsItem item
+    × ((tells_nothing old item ≡ false) × (contradicts_content c old item ≡ false) × (new ≡ streams_with old item))
+
+-- what is learnt of items that are all taken
+abbrev pub all_told : Content → List Item → News
+all_told c items = record {
+  facts = record { rows = rows_of items; ends = ends_of items };
+  got = streams_of (length c.streams) items;
+  all = all_together c.streams (streams_of (length c.streams) items);
+}
+
+-- items of the log that are all taken, absorbed one after the other, if they don't conflict with each other
+pub record AreNew (c : Content) (items : List Item) : Type 0 where
+  pub fits : first_wrong_log (log_of_content c) items ≡ None
+  pub taken : have_conflict items ≡ false → taken_items c items ≡ items
+  pub learnt : have_conflict items ≡ false → IsLearnt c items (all_told c items)

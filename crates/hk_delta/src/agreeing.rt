@@ -1,6 +1,7 @@
 //! Items that agree with a state, as a fragment of what is new.
 
-ghost use Rattle.std.specs.Prelude.{◌≡◌, ◌≤◌, ◌∷◌, [], length, None, OnOk, IfErr};
+ghost use Rattle.std.specs.Prelude.{◌≡◌, ◌≤◌, ◌∷◌, [], length, Bool, None, Ok, IfSome, OnOk, IfErr};
+ghost use Rattle.std.specs.Bool.{OnTrue};
 ghost use Rattle.std.specs.List.{list_any};
 ghost use Rattle.hk_types.specs.declared.faults.Refusal.TheVariants.{Memory};
 ghost use Rattle.hk_model.specs.Replica.Items.{stream_no};
@@ -9,11 +10,12 @@ ghost use Rattle.hk_model.specs.Replica.Rules.{contents_conflict};
 ghost use Rattle.hk_state.specs.Items.{facts_with};
 ghost use Rattle.hk_store.specs.Versions.{value_conflicts_at};
 ghost use Rattle.hk_delta.specs.Agreeing as spec;
-ghost use Rattle.hk_delta.specs.Agreeing.{Agrees, Learns, LearnsAll};
+ghost use Rattle.hk_delta.specs.Agreeing.{Agrees, AreNew, IsNew, Learns, LearnsAll};
 ghost use Rattle.hk_delta.specs.Repeats.{AgreesSo};
 
 use crate::Fragment;
 use crate::cutting::left_of_all;
+use crate::gathering::gather;
 use crate::repeats::some_stand_otherwise;
 use hk_log::{Item, Version};
 use hk_marks::Got;
@@ -98,7 +100,7 @@ fn learn(state: &ReplicaState, news: &mut News, item: &Item) -> Result<(), Refus
 fn learn_all(alloc: Global, state: &ReplicaState, items: &[Item]) -> Result<News, Refusal>
     ensures { LearnsAll state.now items.now result }
 {
-    let _known = state.horizon();
+    let _lawful = state.horizon();
     let mut news = News {
         facts: Facts::new(alloc),
         got: Got::new(alloc, state.config())?,
@@ -112,6 +114,73 @@ fn learn_all(alloc: Global, state: &ReplicaState, items: &[Item]) -> Result<News
     Ok(news)
 }
 
+/// Whether an item is an entry whose time is at most the closed time of its stream, or that has another row or another end of
+/// a version than the state.
+fn contradicts_state(state: &ReplicaState, all: &Got, item: &Item) -> bool
+    requires { stream_no item.now ≤ length all.now }
+    ensures { result ≡ spec.contradicts_content state.now all.now item.now }
+{
+    match item {
+        Item::Commit(entry) => {
+            entry.time() <= all.closed(entry.stream()) || state.facts().conflicts_with_entry(entry)
+        }
+        Item::Closed(_) => false,
+    }
+}
+
+/// Adds an item to the numbers and marks where it is of the log, new to them and in conflict with nothing. Answers whether
+/// it did; where memory is short it says no.
+fn note_new(state: &ReplicaState, all: &mut Got, item: &Item) -> bool
+    requires { length all.old ≡ length state.now.streams }
+    ensures { OnTrue result (IsNew state.now all.old all.new item.now) }
+{
+    let config = state.config();
+    if let Some(_why) = wrong_log(config, item) {
+        return false;
+    }
+    if tells_nothing(all, item) {
+        return false;
+    }
+    if contradicts_state(state, all, item) {
+        return false;
+    }
+    if let Err(_why) = note_item(all, config, item) {
+        return false;
+    }
+    true
+}
+
+/// Whether each of the items is new to a state with those before it, and conflicts with it nowhere; where memory is short it
+/// says no. It makes no facts: whether the items conflict with each other is left open.
+fn are_new(alloc: Global, state: &ReplicaState, items: &[Item]) -> bool
+    ensures { OnTrue result (AreNew state.now items.now) }
+{
+    let _lawful = state.horizon();
+    let Ok(mut all) = state.got().copy(alloc) else {
+        return false;
+    };
+    for item in items {
+        if !note_new(state, &mut all, item) {
+            return false;
+        }
+    }
+    true
+}
+
+/// The fragment of items that are all new to a state, gathered in one pass, as that of items of no state is. Nothing where one
+/// of them isn't new, where one conflicts with the state or another, or where memory is short.
+fn of_new(alloc: Global, state: &ReplicaState, items: &[Item]) -> Option<Fragment>
+    ensures { (compared : Bool) → IfSome result (λ f. AgreesSo compared state.now items.now (Ok f)) }
+{
+    if !are_new(alloc, state, items) {
+        return None;
+    }
+    match gather(alloc, state.config(), items) {
+        Ok(fragment) => Some(fragment),
+        Err(_why) => None,
+    }
+}
+
 /// The fragment of those of the items that are new to a state, with `base` 0 and `horizon` 0. Joining it leaves what
 /// absorbing the items one after the other leaves, and does not touch the state's past.
 ///
@@ -120,7 +189,8 @@ fn learn_all(alloc: Global, state: &ReplicaState, items: &[Item]) -> Result<News
 /// comes where a growth was refused, also before an item that would be refused. The state is only read.
 ///
 /// Cost: O(s + (e + i + w) · log n + b), s streams, e extra numbers and waiting marks of the state, i items, w their
-/// writes, n all these and the facts of the state, b bytes of bodies compared, or copied twice.
+/// writes, n all these and the facts of the state, b bytes of bodies compared, or copied twice. Where each item is new
+/// and none conflicts, that of `fragment_of` and a look at the state for each write.
 pub fn agreed(alloc: Global, state: &ReplicaState, items: &[Item]) -> Result<Fragment, Refusal>
     ensures { Agrees state.now items.now result }
 {
@@ -139,6 +209,9 @@ pub fn agreed_so(
 ) -> Result<Fragment, Refusal>
     ensures { AgreesSo compared state.now items.now result }
 {
+    if let Some(fragment) = of_new(alloc, state, items) {
+        return Ok(fragment);
+    }
     let News { facts, got, .. } = learn_all(alloc, state, items)?;
     if some_stand_otherwise(compared, state.facts(), &facts, state.horizon(), items) {
         return Err(Refusal::Conflict);

@@ -93,7 +93,7 @@ fn facts_of(alloc: Global, items: &[Item]) -> Result<Vec<(VersionKey, Fact)>, Al
 
 /// The fragment of items of the log. It is refused `Conflict` only where two of them conflict with each other, and
 /// else `Memory`.
-fn gather(alloc: Global, config: Config, items: &[Item]) -> Result<Fragment, Refusal>
+pub(crate) fn gather(alloc: Global, config: Config, items: &[Item]) -> Result<Fragment, Refusal>
     requires { rules.first_wrong_log config items.now ≡ None }
     ensures ok { IfOk result (λ fragment. fragment ≡ part config items.now 0 0) }
     ensures agree { OnOk result (have_conflict items.now ≡ false) }

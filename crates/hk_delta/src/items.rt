@@ -19,11 +19,11 @@ fn is_above(time: Time, item: &Item) -> bool
 {
     match item {
         Item::Commit(entry) => {
-            let _known = entry.number();
+            let _in_range = entry.number();
             time < entry.time()
         }
         Item::Closed(mark) => {
-            let _known = mark.n();
+            let _in_range = mark.n();
             true
         }
     }

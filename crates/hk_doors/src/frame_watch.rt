@@ -1,18 +1,16 @@
 //! The position of a connection's bytes in their frames, without a look at what the frames contain.
 
-ghost use Rattle.std.specs.Prelude.{◌≡◌, ◌≢◌, ◌<◌, ◌≤◌, ◌+◌, true, [], take, drop, length, IfSome, IfNone};
+ghost use Rattle.std.specs.Prelude.{◌≡◌, ◌≢◌, ◌<◌, ◌≤◌, ◌+◌, ◌-◌, ◌||◌, nat_lt, true, [], take, drop, length, IfSome, IfNone};
+ghost use Rattle.hk_frames.specs.Framing.{len_of};
 ghost use Rattle.hk_doors.specs.Doors.{passes_all};
+ghost use Rattle.hk_doors.specs.Handing.{HandsOnFirst, IsHead, JudgesFirst, behind, inside};
 ghost use Rattle.hk_doors.specs.declared.frame_watch.Then.TheVariants as thens;
 
-use crate::heads::{HEAD_BYTES, KIND_PLACE, LENGTH_BYTES, Weight, head_len, length_of, weight_of};
+use crate::heads::{HEAD_BYTES, Weight, head_len, judge, weight_of};
 use crate::passes::Passes;
+use hk_frames::{LENGTH_BYTES, length_of};
 use std::marker::Model;
 use std::mem;
-
-/// A kind byte that no message has, and a byte of a length that no frame has.
-const NO_KIND: u8 = 255;
-
-const TOO_LONG: u8 = 255;
 
 /// How many frames are handed on at most before others have their turn.
 const MOST_FRAMES: u32 = 32;
@@ -23,12 +21,12 @@ const FREE_READS: u64 = 64;
 /// For so many bytes of its length a frame may take one read more.
 const BYTES_A_READ: u64 = 64;
 
-/// The position of a connection in its frames: how many bytes of the frame that it is inside are still to come, and the first bytes of
-/// one that can't be judged yet.
+/// The position of a connection in its frames: how many bytes the frame that it is inside has, how many of them are still to come, and
+/// the first bytes of one that can't be judged yet.
 #[derive(Drop)]
 pub struct FrameWatch {
+    whole: u64,
     left: u64,
-    length: u64,
     reads: u64,
     /// Whether nothing is handed on together with what follows this frame.
     is_alone: bool,
@@ -37,16 +35,16 @@ pub struct FrameWatch {
 }
 
 impl Model for FrameWatch {
-    ghost use Rattle.std.specs.Prelude.{◌≡◌, ◌≤◌, ℕ, List, take};
-    ghost use Rattle.std.specs.Coded.{coded_list, coded_ℕ};
+    ghost use Rattle.std.specs.Prelude.{◌≡◌, ◌≤◌, take};
+    ghost use Rattle.hk_doors.specs.Handing.{WatchValue, watch_code};
 
-    ghost Value = { List ℕ };
+    ghost Value = { WatchValue };
 
-    ghost coded = { coded_list coded_ℕ };
+    ghost coded = { watch_code };
 
-    ghost view = { λ w. take w.begun_count w.begun };
+    ghost view = { λ w. record { place = record { whole = w.whole; left = w.left }; begun = take w.begun_count w.begun } };
 
-    ghost invariant = { λ w. w.begun_count ≤ 36 };
+    ghost invariant = { λ w. (w.begun_count ≤ 36) × (w.left ≤ w.whole) × (w.left ≡ 0 → w.whole ≡ 0) };
 }
 
 /// What a look at bytes ended with.
@@ -88,11 +86,12 @@ impl Taken {
 impl FrameWatch {
     /// Between two frames, with nothing begun.
     pub fn new() -> FrameWatch
-        ensures { result ≡ [] }
+        ensures begun { result.begun ≡ [] }
+        ensures place { result.place ≡ inside 0 0 }
     {
         FrameWatch {
+            whole: 0,
             left: 0,
-            length: 0,
             reads: 0,
             is_alone: false,
             begun: [0; HEAD_BYTES],
@@ -101,24 +100,31 @@ impl FrameWatch {
     }
 
     /// Whether the connection is inside a frame.
-    pub fn is_within(&self) -> bool {
+    pub fn is_within(&self) -> bool
+        ensures { result ≡ (nat_lt 0 self.now.place.left || nat_lt 0 (length self.now.begun)) }
+    {
         self.left > 0 || self.begun_count > 0
     }
 
     /// How many bytes of the frame that the connection is inside came so far.
-    pub fn held(&self) -> u64 {
+    pub fn held(&self) -> u64
+        ensures inside { 0 < self.now.place.left → result ≡ self.now.place.whole - self.now.place.left }
+        ensures begun { self.now.place.left ≡ 0 → result ≡ length self.now.begun }
+    {
         if self.left == 0 {
             return self.begun_count as u64;
         }
-        let all = self.length.saturating_add(LENGTH_BYTES as u64);
-        all.saturating_sub(self.left)
+        self.whole - self.left
     }
 
     /// Counts a read inside a frame, and returns whether the frame took more of them than its length explains: 64, and one more for
     /// each 64 bytes of its length.
-    pub fn is_one_too_many(&mut self) -> bool {
+    pub fn is_one_too_many(&mut self) -> bool
+        ensures { self.new ≡ self.old }
+    {
+        let length = self.whole.saturating_sub(LENGTH_BYTES as u64);
         self.reads = self.reads.saturating_add(1);
-        self.reads > FREE_READS.saturating_add(self.length / BYTES_A_READ)
+        self.reads > FREE_READS.saturating_add(length / BYTES_A_READ)
     }
 
     /// Puts what began a frame and wasn't handed on at the front of a buffer, and returns how many bytes that are: at most 36, and no
@@ -126,7 +132,7 @@ impl FrameWatch {
     pub fn put_begun(&self, buf: &mut [u8]) -> usize
         ensures fits { result ≤ length buf.new }
         ensures kept { length buf.new ≡ length buf.old }
-        ensures begun { 36 ≤ length buf.old → take result buf.new ≡ self.now }
+        ensures begun { 36 ≤ length buf.old → take result buf.new ≡ self.now.begun }
     {
         let count = self.begun_count.min(HEAD_BYTES).min(buf.len());
         buf[..count].copy_from_slice(&self.begun[..count]);
@@ -136,46 +142,62 @@ impl FrameWatch {
     /// Keeps what begins a frame that can't be judged yet.
     fn keep_begun(&mut self, bytes: &[u8])
         requires { length bytes.now ≤ 36 }
-        ensures { self.new ≡ bytes.now }
+        ensures begun { self.new.begun ≡ bytes.now }
+        ensures place { self.new.place ≡ self.old.place }
     {
         let count = bytes.len().min(HEAD_BYTES);
         self.begun[..count].copy_from_slice(&bytes[..count]);
         self.begun_count = count;
     }
 
-    /// Enters the next frame, which has so many bytes behind its length, with its first bytes.
-    fn enter(&mut self, length: u64, head: usize, is_alone: bool)
-        ensures { self.new ≡ self.old }
+    /// Goes to where so many bytes of a frame are still to come, or behind it.
+    fn stand(&mut self, whole: u64, left: u64)
+        requires { left ≤ whole }
+        ensures place { self.new.place ≡ inside whole left }
+        ensures begun { self.new.begun ≡ self.old.begun }
     {
-        self.length = length;
-        self.left = length
-            .saturating_add(LENGTH_BYTES as u64)
-            .saturating_sub(head as u64);
-        self.is_alone = is_alone;
-        self.end_frame();
+        self.left = left;
+        if left == 0 {
+            self.whole = 0;
+            self.reads = 0;
+        } else {
+            self.whole = whole;
+        }
     }
 
-    /// How many bytes the next frame is judged by, and how many it has behind its length. A length that no request has that passes
-    /// is turned into one that no message has. `None` where its length isn't there.
-    fn head_of(bytes: &mut [u8], passes: Passes) -> Option<(usize, u64)>
-        ensures kept { length bytes.new ≡ length bytes.old }
-        ensures same { passes_all passes ≡ true → bytes.new ≡ bytes.old }
-        ensures some { IfSome result (λ found. (4 ≤ found.0) × (found.0 ≤ 36)) }
-        ensures none { IfNone result (length bytes.old < 4) }
+    /// How many bytes the next frame is judged by, and how many it has behind its length. `None` where not all of those are there.
+    fn head_of(bytes: &[u8], passes: Passes) -> Option<(usize, u64)>
+        ensures few { IfSome result (λ found. (0 < found.0) × (found.0 ≤ length bytes.now)) }
+        ensures head { IfSome result (λ found. IsHead passes (take found.0 bytes.now)) }
+        ensures len { IfSome result (λ found. found.1 ≡ len_of (take found.0 bytes.now)) }
+        ensures part { IfSome result (λ found. found.0 ≤ 4 + found.1) }
+        ensures width { IfSome result (λ found. found.1 < 4294967296) }
+        ensures none { IfNone result (length bytes.now ≤ 36) }
     {
         if bytes.len() < LENGTH_BYTES {
             return None;
         }
-        let length = length_of(bytes);
-        if passes.is_too_long(length) {
-            bytes[..LENGTH_BYTES].fill(TOO_LONG);
-            return Some((LENGTH_BYTES, length));
+        let len = length_of(bytes) as u64;
+        let head = head_len(passes, len);
+        if bytes.len() < head {
+            return None;
         }
-        Some((head_len(length), length))
+        Some((head, len))
     }
 
-    /// Looks at the first bytes of the next frame, where enough of them are there. A length and a kind that no request has that passes
-    /// are turned into those that no message has.
+    /// Enters the next frame, which has so many bytes behind its length, behind its first bytes.
+    fn enter(&mut self, len: u64, head: usize, is_alone: bool)
+        requires width { len < 4294967296 }
+        requires part { head ≤ 4 + len }
+        ensures place { self.new.place ≡ inside (4 + len) (4 + len - head) }
+        ensures begun { self.new.begun ≡ self.old.begun }
+    {
+        let whole = LENGTH_BYTES as u64 + len;
+        self.is_alone = is_alone;
+        self.stand(whole, whole - head as u64);
+    }
+
+    /// Looks at the first bytes of the next frame, where enough of them are there, and judges them where they can be handed on.
     fn take_head(
         &mut self,
         bytes: &mut [u8],
@@ -187,15 +209,18 @@ impl FrameWatch {
         ensures kept { length bytes.new ≡ length bytes.old }
         ensures same { passes_all passes ≡ true → bytes.new ≡ bytes.old }
         ensures few { result.count ≡ 0 → result.then ≡ thens.Reads → length bytes.old ≤ 36 }
-        ensures begun { self.new ≡ self.old }
+        ensures none { result.then ≢ thens.Reads → result.count ≡ 0 }
+        ensures stays { result.count ≡ 0 → self.new ≡ self.old }
+        ensures begun { self.new.begun ≡ self.old.begun }
+        ensures head { 0 < result.count → IsHead passes (take result.count bytes.old) }
+        ensures judged { 0 < result.count → JudgesFirst passes result.count bytes.old bytes.new }
+        ensures place { 0 < result.count → self.new.place ≡ behind (take result.count bytes.old) }
+        ensures rest { drop result.count bytes.new ≡ drop result.count bytes.old }
     {
-        let Some((head, length)) = Self::head_of(bytes, passes) else {
+        let Some((head, len)) = Self::head_of(bytes, passes) else {
             return Taken::new(0, Then::Reads);
         };
-        if bytes.len() < head {
-            return Taken::new(0, Then::Reads);
-        }
-        let weight = weight_of(&bytes[..head], length, is_at_long_end);
+        let weight = weight_of(&bytes[..head], len, is_at_long_end);
         if weight == Weight::Elsewhere {
             return Taken::new(0, Then::Moves);
         }
@@ -203,10 +228,8 @@ impl FrameWatch {
         if is_alone && !is_first {
             return Taken::new(0, Then::Pauses);
         }
-        if head > KIND_PLACE && !passes.lets_through(bytes[KIND_PLACE]) {
-            bytes[KIND_PLACE] = NO_KIND;
-        }
-        self.enter(length, head, is_alone || weight == Weight::Last);
+        judge(passes, &mut bytes[..head]);
+        self.enter(len, head, is_alone || weight == Weight::Last);
         Taken {
             count: head,
             then: Then::Reads,
@@ -214,19 +237,11 @@ impl FrameWatch {
         }
     }
 
-    /// Begins anew with the next frame where this one is over.
-    fn end_frame(&mut self)
-        ensures { self.new ≡ self.old }
-    {
-        if self.left == 0 {
-            self.length = 0;
-            self.reads = 0;
-        }
-    }
-
     /// Begins a look, and returns how many frames it is inside: none, or one.
     fn begin_look(&mut self) -> u32
-        ensures { self.new ≡ [] }
+        ensures begun { self.new.begun ≡ [] }
+        ensures place { self.new.place ≡ self.old.place }
+        ensures stands { self.new.place ≡ inside self.new.place.whole self.new.place.left }
     {
         self.begun_count = 0;
         if self.left > 0 {
@@ -241,21 +256,24 @@ impl FrameWatch {
     fn is_enough(&mut self, frames: u32) -> bool
         ensures { self.new ≡ self.old }
     {
-        if self.left > 0 {
-            return false;
-        }
         mem::replace(&mut self.is_alone, false) || frames >= MOST_FRAMES
     }
 
     /// Passes over the bytes of the frame that the connection is inside, and returns how many.
     fn take_rest(&mut self, len: usize) -> usize
         ensures some { result ≤ len }
-        ensures begun { self.new ≡ self.old }
+        ensures left { result ≤ self.old.place.left }
+        ensures none { result ≡ 0 → 0 < len → self.new.place.left ≡ 0 }
+        ensures stays { result ≡ 0 → self.new.place ≡ self.old.place }
+        ensures place { self.new.place ≡ inside self.old.place.whole (self.old.place.left - result) }
+        ensures begun { self.new.begun ≡ self.old.begun }
     {
-        let count = usize::try_from(self.left).unwrap_or(usize::MAX).min(len);
-        self.left = self.left.saturating_sub(count as u64);
-        self.end_frame();
-        count
+        if self.left == 0 {
+            return 0;
+        }
+        let count = self.left.min(len as u64);
+        self.stand(self.whole, self.left - count);
+        count as usize
     }
 
     /// Looks at the bytes that a read returned behind what was begun, or that were left by a look before, and returns how many of them
@@ -263,23 +281,26 @@ impl FrameWatch {
     /// take many looks, comes alone; and an Await comes last. What follows them `Pauses`: the caller hands it in again, once those are
     /// answered. Of a frame that can't be judged yet the first bytes are kept (`Reads`). What begins with a frame that asks for
     /// something long `Moves`, where short answers are given, and is the caller's. The kind of each request that doesn't pass is turned
-    /// into one that no message has, and so is a length that none has that passes; where all pass, the bytes are left as they came.
+    /// into one that no message has, and so is a length that none has that passes; all else is left as it came.
     /// Cost: O(f), f frames that these bytes touch, at most 33.
     pub fn take(&mut self, bytes: &mut [u8], passes: Passes, is_at_long_end: bool) -> Taken
         ensures some { result.count ≤ length bytes.old }
         ensures kept { length bytes.new ≡ length bytes.old }
         ensures same { passes_all passes ≡ true → bytes.new ≡ bytes.old }
+        // Those that are handed on are those that came, but for the heads of frames that a door turns away.
+        ensures gets { HandsOnFirst passes result.count self.old.place bytes.old bytes.new self.new.place }
+        ensures rest { drop result.count bytes.new ≡ drop result.count bytes.old }
         // What isn't handed on is kept, and `put_begun` puts it before what the next read brings; or it is the caller's.
-        ensures held { result.then ≡ thens.Reads → self.new ≡ drop result.count bytes.new }
-        ensures left { result.then ≢ thens.Reads → self.new ≡ [] }
+        ensures held { result.then ≡ thens.Reads → self.new.begun ≡ drop result.count bytes.new }
+        ensures left { result.then ≢ thens.Reads → self.new.begun ≡ [] }
     {
         let mut done = 0;
         let mut frames = self.begin_look();
         let mut is_apart = false;
         while done < bytes.len() {
-            if self.left > 0 {
-                let rest = bytes.len() - done;
-                done += self.take_rest(rest).max(1).min(rest);
+            let rest = self.take_rest(bytes.len() - done);
+            if rest > 0 {
+                done += rest;
                 continue;
             }
             if self.is_enough(frames) {

@@ -6,7 +6,9 @@
 
 mod frame_watch;
 mod heads;
+mod laws;
 mod passes;
 
 pub use frame_watch::{FrameWatch, Taken, Then};
+pub use laws::handing_law;
 pub use passes::Passes;

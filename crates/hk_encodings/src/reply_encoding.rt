@@ -26,7 +26,7 @@ pub fn reply_len(reply: &Reply) -> Option<u32>
 }
 
 /// Adds a reply's frame, whose rest has so many bytes.
-#[tactic(auto, using(std::proofs::Common::append_assoc, hk_frames::proofs::Prefix::kept_all, hk_frames::proofs::Prefix::kept_before, hk_frames::proofs::Prefix::kept_both), unfolding(hk_frames::specs::Framing::encoded, hk_messages::specs::Replies::reply_rest))]
+#[tactic(auto, using(hk_frames::proofs::Put::all), unfolding(hk_frames::specs::Framing::encoded, hk_messages::specs::Replies::reply_rest))]
 fn put_reply(out: &mut Vec<u8>, reply: &Reply, rest: u32) -> Result<(), AllocError>
     requires len { rest ≡ length (replies.reply_rest (replies.reply_seen reply.now)) }
     requires rules { replies.keeps_rules (replies.reply_seen reply.now) ≡ true }

@@ -4,10 +4,11 @@ ghost use Rattle.std.specs.Prelude.{◌≡◌, ◌++◌, true, length, take, OnO
 ghost use Rattle.hk_messages.specs.Requests as requests;
 
 use hk_message_head::head::{HEAD_BYTES, MOST_REST_BYTES, put_head};
-use hk_messages::later_request_encoding::later_kind;
-use hk_messages::request::{
-    ASK, DELTA, FEED, FRONT, FULL, ITEMS, JOIN_THIS, MERGE_THIS, PRUNE, Request,
+use hk_message_head::request_kinds::{
+    ASK, DELTA, FEED, FRONT, FULL, ITEMS, JOIN_THIS, MERGE_THIS, PRUNE,
 };
+use hk_messages::Request;
+use hk_messages::later_request_encoding::later_kind;
 use hk_messages::request_body::{body_len, keeps_rules, put_body};
 use hk_types::{FormFault, Refusal};
 use std::alloc::AllocError;
@@ -48,7 +49,7 @@ fn request_len(request: &Request) -> Option<u32>
 }
 
 /// Adds a request's frame, whose rest has so many bytes.
-#[tactic(auto, using(std::proofs::Common::append_assoc, hk_frames::proofs::Prefix::kept_all, hk_frames::proofs::Prefix::kept_before, hk_frames::proofs::Prefix::kept_both), unfolding(hk_frames::specs::Framing::encoded, hk_messages::specs::Requests::request_rest))]
+#[tactic(auto, using(hk_frames::proofs::Put::all))]
 fn put_request(out: &mut Vec<u8>, request: &Request, rest: u32) -> Result<(), AllocError>
     requires len { rest ≡ requests.rest_length request.now }
     requires rules { requests.keeps_rules (requests.request_seen request.now) ≡ true }

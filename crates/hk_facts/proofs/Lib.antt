@@ -8,3 +8,4 @@ pub mod LatestVersion
 pub mod ShownRow
 pub mod PartedChains
 mod NextBorn
+mod VersionsInTurn

@@ -1,5 +1,5 @@
 -- Versions in a list by rising birth, and the chain that the list is.
-use Rattle.std.proofs.Common.{◌≡◌, refl, sym, ap, ◌∙◌, subst, ℕ, zero, suc, ◌+◌, ◌-◌, ◌<◌, ◌≤◌, Bool, true, false, true≢false, cond, not, ◌&&◌, Option, Some, None, option_map, List, [], ◌∷◌, ◌++◌, filter, take, set, get_or, length, ◌==◌, nat_cmp, nat_le, is_lt, Ordering, Less, Equal, Greater, Result, Ok, Err, IfOk, IfErr, ◌⊎◌, inl, inr, arith}
+use Rattle.std.proofs.Common.{◌≡◌, refl, sym, ap, ◌∙◌, subst, ℕ, zero, suc, ◌+◌, ◌-◌, ◌<◌, ◌≤◌, Bool, true, false, true≢false, cond, not, ◌&&◌, Option, Some, None, option_map, List, [], ◌∷◌, ◌++◌, filter, take, set, get_or, length, ◌==◌, nat_cmp, nat_le, nat_lt, is_lt, Ordering, Less, Equal, Greater, Result, Ok, Err, IfOk, IfErr, ◌⊎◌, inl, inr, arith}
 use Rattle.std.proofs.lemmas.Bool.Decides.{nat_tests}
 use Rattle.std.proofs.lemmas.Bool.{cases_lt}
 use Rattle.std.proofs.lemmas.List.{get_or-map, length-map, length-take, take_more, take_all, get_or-take}
@@ -8,7 +8,7 @@ use Rattle.std.proofs.lemmas.List.Sorted.{IsNonDecreasingBy-from_all_adjacent, I
 use Rattle.std.proofs.lemmas.Map.Keys.{IsDistinct-from_sorted, below_from_sorted}
 use Rattle.std.proofs.lemmas.Map.Entries.{lookup_from_place, place_from_lookup}
 use Rattle.std.specs.Bool.{beq}
-use Rattle.std.specs.Option.{is_some, MatchOption}
+use Rattle.std.specs.Option.{is_some, IfSome, MatchOption}
 use Rattle.std.specs.Cmp.{nat_cmp_total, eq_by_cmp_equiv}
 use Rattle.std.specs.Ordering.{eq_by_cmp, ordering_index}
 use Rattle.std.specs.List.{AllByRecursion, AllWithin, slice_get, insert, remove}
@@ -23,10 +23,12 @@ use Rattle.hk_model.specs.Replica.Content.{at_most}
 use Rattle.hk_facts.specs.Listed.{listed, first_only, is_other, if_row, IsPartOf, AreByBirth, StandsAt, FitsAt}
 use Rattle.hk_facts.specs.Parted.{both, AreApart, IsParted}
 use Rattle.hk_types.specs.declared.faults.Refusal.{Refusal}
+use Rattle.hk_facts.specs.declared.bounds.Bounds.{Bounds}
 use Rattle.hk_facts.specs.declared.fact.Fact.{Fact}
 use Rattle.hk_facts.specs.declared.fact.Part.{Part}
-use Rattle.hk_facts.specs.Facts.{put_result, without, row_of}
+use Rattle.hk_facts.specs.Facts.{died_of, put_result, without, row_of}
 use Rattle.hk_facts.specs.Chains.{ChainValue, set_at, put_at, chain_put, chain_forget, chain_until, latest_at, last_where, IsEarliest}
+use Rattle.hk_facts.specs.Turns.{AreBounded, AreInTurn, MayBeBorn}
 use Rattle.hk_facts.proofs.StoredTrees.{entries_sorted, get_entries, get-set_at, same_at_all, set_at_same, tied_same, tied_self}
 use Rattle.hk_facts.proofs.ForgottenParts.{nothing_left}
 use Rattle.hk_facts.proofs.DroppedEnds.{until_entries}
@@ -40,7 +42,7 @@ abbrev tied : ℕ → ℕ → Bool
 tied q k = eq_by_cmp nat_cmp q k
 
 -- what a list has at a birth
-abbrev look : ℕ → List Entry → Option VersionValue
+abbrev pub look : ℕ → List Entry → Option VersionValue
 look q es = lookup (is_at (nat_cmp q)) es
 
 less : (a b : ℕ) → a < b → nat_cmp a b ≡ Less
@@ -515,12 +517,26 @@ module _ (es : List Entry) (i : ℕ) (e : Entry) (s : AreByBirth es) (within : i
   place : StandsAt es e.0 i
   place = (within, λ d. ap (λ (x : Entry). x.0) (get_or_same es i d e within ∙ sym is))
 
-  look_more : (q : ℕ) → look q (take (i + 1) es) ≡ cond (tied q e.0) (Some e.1) (look q (take i es))
+  pub look_more : (q : ℕ) → look q (take (i + 1) es) ≡ cond (tied q e.0) (Some e.1) (look q (take i es))
   look_more q = ap (look q) (take_more es i e within ∙ ap (λ x. take i es ++ x ∷ []) (sym is)) ∙ pushed (take i es) (λ k d low h. rw (get_or-take i es k d (omega (arith, h, length-take i es))) (front_below es e.0 i s place k d low (omega (arith, h, length-take i es))))
     where
       pushed : (xs : List Entry) → AllWithin (λ (x : Entry). x.0 < e.0) xs 0 (length xs) → look q (xs ++ e ∷ []) ≡ cond (tied q e.0) (Some e.1) (look q xs)
       pushed [] front = refl
       pushed (x ∷ xs) front = ap (cond (tied q x.0) (Some x.1)) (pushed xs (λ k d low h. front (suc k) d (omega arith) (omega arith))) ∙ passed q e.0 x.0 x.1 (Some e.1) (look q xs) (front zero x (omega arith) (omega arith))
+
+  -- those before it were born before
+  pub look_before : (q : ℕ) → is_some (look q (take i es)) ≡ true → q < e.0
+  look_before q some = by (nat_lt q e.0) refl
+    where
+      lower : nat_lt q e.0 ≡ true → q < e.0
+      lower t = grind (arith, nat_tests)
+
+      upper : nat_lt q e.0 ≡ false → e.0 ≤ q
+      upper t = grind (arith, nat_tests)
+
+      by : (b : Bool) → nat_lt q e.0 ≡ b → q < e.0
+      by true t = lower t
+      by false t = absurd (true≢false (sym some ∙ ap is_some (none_tied q (take i es) (λ k d low h. over q (get_or (take i es) k d).0 (let a = upper t in let g = ap (λ (x : Entry). x.0) (get_or-take i es k d (omega (arith, h, length-take i es))) in let o = front_below es e.0 i s place k d low (omega (arith, h, length-take i es)) in omega (arith, a, g, o))))))
 
   -- one that is wanted goes in
   pub row_more : (with_row : Bool) → beq (is_some e.1.row) with_row ≡ true → (q : ℕ) → if_row with_row (look q (take (i + 1) es)) ≡ cond (tied q e.0) (Some e.1) (if_row with_row (look q (take i es)))
@@ -639,3 +655,58 @@ told_less a b o is less = by a b (sym is ∙ less)
 
 pub told_not_less : (a b : ℕ) → is_lt (nat_cmp a b) ≡ false → b ≤ a
 told_not_less a b e = grind (arith, nat_tests)
+
+-- ---- a list in turn, one after the other
+
+-- none of some versions ends after the birth of a later one, nor after a time
+pub record InTurnUntil (known : ℕ → Option VersionValue) (latest : ℕ) : Type 0 where
+  pub turn : (a b died : ℕ) → died_of (known a) ≡ Some died → is_some (known b) ≡ true → a < b → died ≤ b
+  pub ends : (a died : ℕ) → died_of (known a) ≡ Some died → died ≤ latest
+
+pub none_in_turn : (latest : ℕ) → InTurnUntil (λ _. None) latest
+none_in_turn latest = record { turn = λ a b died is. cc; ends = λ a died is. cc }
+
+pub one_more_in_turn : (old new : ℕ → Option VersionValue) (e : Entry) (latest next : ℕ) → ((q : ℕ) → new q ≡ cond (tied q e.0) (Some e.1) (old q)) → ((q : ℕ) → is_some (old q) ≡ true → q < e.0) → latest ≤ e.0 → latest ≤ next → IfSome e.1.died (λ died. died ≤ next) → InTurnUntil old latest → InTurnUntil new next
+one_more_in_turn old new e latest next more lower fits rises ended is = record {
+  turn = λ a b died end there lt. by a b died lt (tied a e.0) refl (tied b e.0) refl (sym (ap died_of (more a)) ∙ end) (sym (ap is_some (more b)) ∙ there);
+  ends = λ a died end. up a died (tied a e.0) (sym (ap died_of (more a)) ∙ end);
+}
+  where
+    by : (a b died : ℕ) → a < b → (x : Bool) → tied a e.0 ≡ x → (y : Bool) → tied b e.0 ≡ y → died_of (cond x (Some e.1) (old a)) ≡ Some died → is_some (cond y (Some e.1) (old b)) ≡ true → died ≤ b
+    by a b died lt true s true t end there = let i = tied_same a e.0 s in let j = tied_same b e.0 t in absurd (omega (arith, i, j, lt))
+    by a b died lt true s false t end there = let i = tied_same a e.0 s in let k = lower b there in absurd (omega (arith, i, k, lt))
+    by a b died lt false s true t end there = let j = tied_same b e.0 t in let k = is.ends a died end in omega (arith, j, k, fits)
+    by a b died lt false s false t end there = is.turn a b died end there lt
+
+    up : (a died : ℕ) (x : Bool) → died_of (cond x (Some e.1) (old a)) ≡ Some died → died ≤ next
+    up a died true end = subst (λ (o : Option ℕ). IfSome o (λ d. d ≤ next)) end ended
+    up a died false end = let k = is.ends a died end in omega (arith, k, rises)
+
+-- all of a list
+pub list_in_turn : (es : List Entry) (n latest : ℕ) → length es ≤ n → InTurnUntil (λ q. look q (take n es)) latest → AreInTurn (listed es)
+list_in_turn es n latest all is a b died end there lt = is.turn a b died (ap died_of (same a) ∙ end) (ap is_some (same b) ∙ there) lt
+  where
+    same : (q : ℕ) → look q (take n es) ≡ finmap.get (listed es) q
+    same q = ap (look q) (take_all n es all) ∙ sym (get_entries es q)
+
+-- ---- bounds of a list, one after the other
+
+pub one_more_bounded : (old new : ℕ → Option VersionValue) (e : Entry) (bounds next : Bounds) → ((q : ℕ) → new q ≡ cond (tied q e.0) (Some e.1) (old q)) → ((time : ℕ) → MayBeBorn bounds time → MayBeBorn next time) → MayBeBorn next e.0 → bounds.latest ≤ next.latest → IfSome e.1.died (λ died. died ≤ next.latest) → AreBounded old bounds → AreBounded new next
+one_more_bounded old new e bounds next more births here rises ended are = record {
+  ends = λ a died end. up a died (tied a e.0) (sym (ap died_of (more a)) ∙ end);
+  births = λ a there. by a (tied a e.0) refl (sym (ap is_some (more a)) ∙ there);
+}
+  where
+    up : (a died : ℕ) (x : Bool) → died_of (cond x (Some e.1) (old a)) ≡ Some died → died ≤ next.latest
+    up a died true end = subst (λ (o : Option ℕ). IfSome o (λ d. d ≤ next.latest)) end ended
+    up a died false end = let k = are.ends a died end in omega (arith, k, rises)
+
+    by : (a : ℕ) (x : Bool) → tied a e.0 ≡ x → is_some (cond x (Some e.1) (old a)) ≡ true → MayBeBorn next a
+    by a true t there = subst (MayBeBorn next) (sym (tied_same a e.0 t)) here
+    by a false t there = births a (are.births a there)
+
+pub list_bounded : (es : List Entry) (n : ℕ) (bounds : Bounds) → length es ≤ n → AreBounded (λ q. look q (take n es)) bounds → AreBounded (finmap.get (listed es)) bounds
+list_bounded es n bounds all are = record { ends = λ a died end. are.ends a died (ap died_of (same a) ∙ end); births = λ a there. are.births a (ap is_some (same a) ∙ there) }
+  where
+    same : (q : ℕ) → look q (take n es) ≡ finmap.get (listed es) q
+    same q = ap (look q) (take_all n es all) ∙ sym (get_entries es q)

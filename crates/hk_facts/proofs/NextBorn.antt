@@ -1,19 +1,19 @@
--- The version born next of a chain that stands in two parts, or in a tree.
-use Rattle.std.proofs.Common.{◌≡◌, refl, sym, ap, ◌∙◌, subst, ℕ, ◌<◌, ◌≤◌, Bool, true, false, cond, true≢false, nat_lt, nat_le, nat_cmp, Option, Some, None, List, [], ◌∷◌, arith, Less, length, IsSome}
+-- The version born next, or last before a time, of a chain that stands in two parts, or in a tree.
+use Rattle.std.proofs.Common.{◌≡◌, refl, sym, ap, ◌∙◌, subst, ℕ, ◌<◌, ◌≤◌, Bool, true, false, cond, true≢false, nat_lt, nat_le, nat_cmp, Option, Some, None, List, [], ◌∷◌, ◌++◌, arith, Less, length, IsSome}
 use Rattle.std.proofs.lemmas.Bool.Decides.{nat_tests}
 use Rattle.std.specs.Option.{is_some}
 use Rattle.std.specs.BTreeMap.{BTreeMap}
 use Rattle.std.specs.BTreeMap as tree
 use Rattle.std.specs.BTreeMap.Range.{IsRangeOf}
 use Rattle.std.specs.declared.ops.Bound.TheVariants.{Excluded, Unbounded}
-use Rattle.std.specs.Ordering.{is_gt}
+use Rattle.std.specs.Ordering.{is_gt, is_lt}
 use Rattle.std.specs.FinMap as finmap
 use Rattle.hk_log.specs.Versions.{VersionValue}
 use Rattle.hk_model.specs.Replica.Maps.{or_else}
-use Rattle.hk_facts.specs.Chains.{ChainValue, FirstBorn, IsEarliest, is_after}
-use Rattle.hk_facts.specs.Parted.{both, is_earlier}
+use Rattle.hk_facts.specs.Chains.{ChainValue, FirstBorn, IsEarliest, IsLastBefore, LastBefore, is_after}
+use Rattle.hk_facts.specs.Parted.{both, is_earlier, is_later}
 use Rattle.hk_facts.proofs.StoredTrees.{seen, get_seen, seen_none}
-use Rattle.hk_facts.proofs.PartedChains.{get_both}
+use Rattle.hk_facts.proofs.PartedChains.{get_both, get_end, get_there}
 
 abbrev Found : Type 0
 Found = ℕ × VersionValue
@@ -159,6 +159,28 @@ module _ (m : BTreeMap ℕ VersionValue) where
           earliest = λ born t some. not_above e.0 born (here.2 born (later born t, tt) (there born some));
         }
 
+  module _ (time : ℕ) (range : List Found) (is : IsRangeOf nat_cmp Unbounded (Excluded time) m range) where
+    below : (born : ℕ) → born < time → nat_cmp born time ≡ Less
+    below born lt = grind (arith, nat_tests)
+
+    before : (born : ℕ) → nat_cmp born time ≡ Less → born < time
+    before born e = grind (arith, nat_tests)
+
+    not_below : (a b : ℕ) → is_lt (nat_cmp a b) ≡ false → b ≤ a
+    not_below a b e = grind (arith, nat_tests)
+
+    pub before_none : range ≡ [] → LastBefore (seen m) time None
+    before_none none = λ born t. get_seen m born ∙ is.5 none born (tt, below born t)
+
+    pub before_some : (e : Found) (rest : List Found) → range ≡ rest ++ e ∷ [] → IsLastBefore (seen m) time e
+    before_some e rest same =
+        let here = is.3 e rest same in
+        record {
+          known = get_seen m e.0 ∙ here.1;
+          before = before e.0 here.0.1;
+          last = λ born t some. not_below e.0 born (is.4 e rest same born (tt, below born t) (there born some));
+        }
+
 -- ---- rows and ends apart
 
 module _ (test : ℕ → Bool) (rows ends : ChainValue) where
@@ -189,3 +211,47 @@ module _ (test : ℕ → Bool) (rows ends : ChainValue) where
   -- as it is chosen
   pub both_chosen : (x y : Option Found) → FirstBorn rows test x → FirstBorn ends test y → (chosen : Bool) → chosen ≡ is_earlier x y → (chosen ≡ true → Whole x) × (chosen ≡ false → Whole y)
   both_chosen x y l r chosen is = (λ e. subst (λ b. Whole (cond b x y)) (sym is ∙ e) (next_both x y l r), λ e. subst (λ b. Whole (cond b x y)) (sym is ∙ e) (next_both x y l r))
+
+-- ---- the last before a time, of rows and ends apart
+
+module _ (rows ends : ChainValue) (time : ℕ) where
+  abbrev Last : Option Found → Type 0
+  Last o = LastBefore (both rows ends) time o
+
+  in_either : (P : Type 0) (q : ℕ) → is_some (finmap.get (both rows ends) q) ≡ true → (is_some (finmap.get rows q) ≡ true → P) → (is_some (finmap.get ends q) ≡ true → P) → P
+  in_either = either (λ _. true) (finmap.get rows) (finmap.get ends) (finmap.get (both rows ends)) (get_both rows ends)
+
+  never : (P : Type 0) (x : Option VersionValue) → x ≡ None → is_some x ≡ true → P
+  never P x none some = absurd (true≢false (sym some ∙ ap is_some none))
+
+  row_last : (e : Found) → IsLastBefore rows time e → ((q : ℕ) → q < time → is_some (finmap.get ends q) ≡ true → q ≤ e.0) → Last (Some e)
+  row_last e l others = record {
+    known = sym (get_there rows ends e.0 e.1 (sym l.known));
+    before = l.before;
+    last = λ q t some. in_either (q ≤ e.0) q some (λ s. l.last q t s) (λ s. others q t s);
+  }
+
+  end_last : (f : Found) → IsLastBefore ends time f → finmap.get rows f.0 ≡ None → ((q : ℕ) → q < time → is_some (finmap.get rows q) ≡ true → q ≤ f.0) → Last (Some f)
+  end_last f r none others = record {
+    known = get_end rows ends f.0 none ∙ r.known;
+    before = r.before;
+    last = λ q t some. in_either (q ≤ f.0) q some (λ s. others q t s) (λ s. r.last q t s);
+  }
+
+  both_last : (e f : Found) → IsLastBefore rows time e → IsLastBefore ends time f → (b : Bool) → nat_le f.0 e.0 ≡ b → Last (cond b (Some e) (Some f))
+  both_last e f l r true is = row_last e l (λ q t s. let up = r.last q t s in let k = at_most f.0 e.0 is in omega arith)
+  both_last e f l r false is = end_last f r (absent (finmap.get rows f.0) refl) (λ q t s. let up = l.last q t s in let k = under f.0 e.0 is in omega arith)
+    where
+      absent : (x : Option VersionValue) → finmap.get rows f.0 ≡ x → x ≡ None
+      absent None g = refl
+      absent (Some v) g = let up = l.last f.0 r.before (ap is_some g) in let k = under f.0 e.0 is in absurd (omega arith)
+
+  last_both : (x y : Option Found) → LastBefore rows time x → LastBefore ends time y → Last (cond (is_later x y) x y)
+  last_both None None l r = λ q t. get_end rows ends q (l q t) ∙ r q t
+  last_both None (Some f) l r = end_last f r (l f.0 r.before) (λ q t s. never (q ≤ f.0) _ (l q t) s)
+  last_both (Some e) None l r = row_last e l (λ q t s. never (q ≤ e.0) _ (r q t) s)
+  last_both (Some e) (Some f) l r = both_last e f l r (nat_le f.0 e.0) refl
+
+  -- as it is chosen
+  pub last_chosen : (x y : Option Found) → LastBefore rows time x → LastBefore ends time y → (chosen : Bool) → chosen ≡ is_later x y → (chosen ≡ true → Last x) × (chosen ≡ false → Last y)
+  last_chosen x y l r chosen is = (λ e. subst (λ b. Last (cond b x y)) (sym is ∙ e) (last_both x y l r), λ e. subst (λ b. Last (cond b x y)) (sym is ∙ e) (last_both x y l r))

@@ -1,5 +1,5 @@
 -- The chain of a key: its versions, by the time at which they were born.
-use Rattle.std.specs.Prelude.{ℕ, Bool, not, ◌&&◌, ◌==◌, nat_le, nat_lt, List, [], ◌∷◌, Option, Some, None, Result, Ok, Err, if◌then◌else◌, is_some, ◌≡◌, true, ◌≤◌, ◌⊎◌}
+use Rattle.std.specs.Prelude.{ℕ, Bool, not, ◌&&◌, ◌==◌, nat_le, nat_lt, List, [], ◌∷◌, Option, Some, None, Result, Ok, Err, if◌then◌else◌, is_some, ◌≡◌, true, ◌≤◌, ◌<◌, ◌⊎◌}
 use Rattle.std.specs.Ordering.{nat_cmp}
 use Rattle.std.specs.FinMap as finmap
 use Rattle.hk_types.specs.Values.{RowValue}
@@ -93,3 +93,14 @@ pub record IsEarliest (c : ChainValue) (test : ℕ → Bool) (found : ℕ × Ver
 abbrev pub FirstBorn : ChainValue → (ℕ → Bool) → Option (ℕ × VersionValue) → Type 0
 FirstBorn c test (Some found) = IsEarliest c test found
 FirstBorn c test None = (born : ℕ) → test born ≡ true → finmap.get c born ≡ None
+
+-- of the versions born before a time the one born last
+pub record IsLastBefore (c : ChainValue) (time : ℕ) (found : ℕ × VersionValue) : Type 0 where
+  pub known : finmap.get c found.0 ≡ Some found.1
+  pub before : found.0 < time
+  pub last : (born : ℕ) → born < time → is_some (finmap.get c born) ≡ true → born ≤ found.0
+
+-- the version born last of those born before a time, or none where there is none
+abbrev pub LastBefore : ChainValue → ℕ → Option (ℕ × VersionValue) → Type 0
+LastBefore c time (Some found) = IsLastBefore c time found
+LastBefore c time None = (born : ℕ) → born < time → finmap.get c born ≡ None

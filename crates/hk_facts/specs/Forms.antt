@@ -8,4 +8,4 @@ use Rattle.hk_facts.specs.Listed.{first_only}
 abbrev pub stored : ChainForm → ChainValue
 stored (One first) = first_only first
 stored (Few few) = few
-stored (Many others) = others.value
+stored (Many many) = many.value

@@ -3,3 +3,4 @@ pub mod Chains
 pub mod Listed
 pub mod Forms
 pub mod Parted
+pub mod Turns

@@ -6,6 +6,7 @@ ghost use Rattle.std.specs.FinMap as finmap;
 ghost use Rattle.hk_types.specs.declared.faults.Refusal.TheVariants.{Memory};
 ghost use Rattle.hk_facts.specs.declared.fact.Fact.TheVariants.{Row as RowFact, End as EndFact};
 ghost use Rattle.hk_facts.specs.Chains.{chain_put, chain_forget, chain_until, is_new_to, latest_at, row_at, is_after, FirstBorn, RefusesPut};
+ghost use Rattle.hk_facts.specs.Turns.{AreOver};
 
 use crate::chain_form::ChainForm;
 use crate::fact::{Fact, Part};
@@ -174,6 +175,17 @@ impl Chain {
         ensures { FirstBorn self.now (is_after after) (option_map (λ p. (p.0, p.1.now)) result) }
     {
         self.form.next(&after)
+    }
+
+    /// A time up to which all versions are over before another: each was born before that, and has no end from it on.
+    /// What was born or ended from that on is then found by `next` behind it, with no look at the others. None where no
+    /// such time is known: in a list, of at most 32 versions; where fewer than two versions were born before; and once a
+    /// version ended after the birth of a later one, which none does in a history. It takes no memory.
+    /// Cost: O(log n), n versions.
+    pub fn over_before(&self, time: Time) -> Option<Time>
+        ensures { AreOver self.now time result }
+    {
+        self.form.over_before(time)
     }
 
     pub fn is_empty(&self) -> bool

@@ -7,11 +7,12 @@ ghost use Rattle.hk_types.specs.declared.faults.Refusal.TheVariants.{Memory};
 ghost use Rattle.hk_facts.specs.Chains.{chain_put, chain_forget, chain_until, is_new_to, latest_at, is_after, FirstBorn, RefusesPut};
 ghost use Rattle.hk_facts.specs.Listed.{listed, first_only, is_other, AreByBirth};
 ghost use Rattle.hk_facts.specs.Forms.{stored};
+ghost use Rattle.hk_facts.specs.Turns.{AreOver};
 
 use crate::fact::{Fact, Part, join, take_back, version_of};
 use crate::few::Few;
 use crate::list::{latest_in, next_in, version_in};
-use crate::others::Others;
+use crate::many::Many;
 use crate::versions::ended_by;
 use hk_log::Version;
 use hk_types::{Refusal, Time};
@@ -21,7 +22,7 @@ use std::alloc::{AllocError, Global};
 pub(crate) enum ChainForm {
     One(Option<(Time, Version)>),
     Few(Few),
-    Many(Box<Others>),
+    Many(Box<Many>),
 }
 
 // Written out, so that letting a chain with no version go costs nothing where it is seen to have none.
@@ -31,7 +32,7 @@ impl Drop for ChainForm {
         match self {
             ChainForm::One(first) => drop(first),
             ChainForm::Few(few) => drop(few),
-            ChainForm::Many(others) => drop(others),
+            ChainForm::Many(many) => drop(many),
         }
     }
 }
@@ -62,11 +63,11 @@ impl ChainForm {
                 if !few.is_full() || version_in(few.list(), born).is_some() {
                     return few.put(born, fact);
                 }
-                let others = put_beyond(alloc, few, born, fact)?;
-                *self = ChainForm::Many(others);
+                let many = put_beyond(alloc, few, born, fact)?;
+                *self = ChainForm::Many(many);
                 Ok(true)
             }
-            ChainForm::Many(others) => others.put(born, fact),
+            ChainForm::Many(many) => many.put(born, fact),
         }
     }
 
@@ -78,7 +79,7 @@ impl ChainForm {
         match self {
             ChainForm::One(first) => forget_first(first, born, part),
             ChainForm::Few(few) => few.forget(born, part),
-            ChainForm::Many(others) => others.forget(born, part),
+            ChainForm::Many(many) => many.forget(born, part),
         }
     }
 
@@ -90,7 +91,7 @@ impl ChainForm {
         match self {
             ChainForm::One(first) => drop_first(first, until),
             ChainForm::Few(few) => few.drop_until(until),
-            ChainForm::Many(others) => others.drop_until(until),
+            ChainForm::Many(many) => many.drop_until(until),
         }
     }
 
@@ -102,7 +103,7 @@ impl ChainForm {
         match self {
             ChainForm::One(first) => latest_in(only(first), time),
             ChainForm::Few(few) => latest_in(few.list(), time),
-            ChainForm::Many(others) => others.latest(time),
+            ChainForm::Many(many) => many.versions().latest(time),
         }
     }
 
@@ -114,7 +115,7 @@ impl ChainForm {
         match self {
             ChainForm::One(first) => version_in(only(first), born),
             ChainForm::Few(few) => version_in(few.list(), born),
-            ChainForm::Many(others) => others.version(born),
+            ChainForm::Many(many) => many.versions().version(born),
         }
     }
 
@@ -126,7 +127,18 @@ impl ChainForm {
         match self {
             ChainForm::One(first) => next_in(only(first), after),
             ChainForm::Few(few) => next_in(few.list(), after),
-            ChainForm::Many(others) => others.next(after),
+            ChainForm::Many(many) => many.versions().next(after),
+        }
+    }
+
+    /// A time up to which all versions are over before another, where one is known: it is sought among many versions alone. It takes no
+    /// memory. Cost: that of `Many::over_before`.
+    pub(crate) fn over_before(&self, time: Time) -> Option<Time>
+        ensures { AreOver (stored self.now) time result }
+    {
+        match self {
+            ChainForm::Many(many) => many.over_before(time),
+            _ => None,
         }
     }
 
@@ -136,7 +148,7 @@ impl ChainForm {
         match self {
             ChainForm::One(first) => first.is_none(),
             ChainForm::Few(few) => few.is_empty(),
-            ChainForm::Many(others) => others.is_empty(),
+            ChainForm::Many(many) => many.versions().is_empty(),
         }
     }
 
@@ -148,7 +160,7 @@ impl ChainForm {
         match self {
             ChainForm::One(first) => Ok(ChainForm::One(copy_first(alloc, first)?)),
             ChainForm::Few(few) => Ok(ChainForm::Few(few.copy(alloc)?)),
-            ChainForm::Many(others) => Ok(ChainForm::Many(boxed(alloc, others.copy(alloc)?)?)),
+            ChainForm::Many(many) => Ok(ChainForm::Many(boxed(alloc, many.copy(alloc)?)?)),
         }
     }
 }
@@ -192,14 +204,14 @@ fn put_first(first: &mut Option<(Time, Version)>, born: Time, fact: Fact) -> Res
 }
 
 /// The versions of a list in maps, with a fact on one that is not among them.
-fn put_beyond(alloc: Global, few: &Few, born: Time, fact: Fact) -> Result<Box<Others>, Refusal>
+fn put_beyond(alloc: Global, few: &Few, born: Time, fact: Fact) -> Result<Box<Many>, Refusal>
     requires { finmap.get few.now born ≡ None }
-    ensures ok { IfOk result (λ others. chain_put few.now born fact ≡ Ok others.value) }
+    ensures ok { IfOk result (λ many. chain_put few.now born fact ≡ Ok many.value) }
     ensures err { IfErr result (λ why. (chain_put few.now born fact ≡ Err why) ⊎ (why ≡ Memory)) }
 {
-    let mut others = boxed(alloc, Others::of_list(alloc, few.list())?)?;
-    others.put(born, fact)?;
-    Ok(others)
+    let mut many = boxed(alloc, Many::of_list(alloc, few.list())?)?;
+    many.put(born, fact)?;
+    Ok(many)
 }
 
 /// Removes a part of a version, where it was born then.
@@ -243,11 +255,11 @@ fn copy_first(
 }
 
 /// The same in a box. The only error is out of memory.
-fn boxed(alloc: Global, others: Others) -> Result<Box<Others>, AllocError>
-    ensures { IfOk result (λ b. b.value ≡ others) }
+fn boxed(alloc: Global, many: Many) -> Result<Box<Many>, AllocError>
+    ensures { IfOk result (λ b. b.value ≡ many) }
 {
-    match Box::new(alloc, others) {
-        Ok(others) => Ok(others),
+    match Box::new(alloc, many) {
+        Ok(many) => Ok(many),
         Err(_refused) => Err(AllocError),
     }
 }

@@ -1,12 +1,15 @@
 //! Versions in a list, by rising birth.
 
-ghost use Rattle.std.specs.Prelude.{◌≡◌, ◌<◌, ◌≤◌, true, false, length, IfOk, IfErr};
+ghost use Rattle.std.specs.Prelude.{◌≡◌, ◌<◌, ◌≤◌, true, false, length, IfOk, IfErr, IfSome};
+ghost use Rattle.std.specs.Bool.{OnTrue};
 ghost use Rattle.std.specs.List.{AllWithin};
 ghost use Rattle.std.specs.Option.{option_copied, option_map};
 ghost use Rattle.std.specs.FinMap as finmap;
 ghost use Rattle.hk_facts.specs.Chains.{latest_at, is_after, FirstBorn};
 ghost use Rattle.hk_facts.specs.Listed.{listed, AreByBirth, StandsAt, FitsAt};
+ghost use Rattle.hk_facts.specs.Turns.{AreBounded, AreInTurn};
 
+use crate::bounds::Bounds;
 use hk_log::Version;
 use hk_types::Time;
 use std::cmp::Ordering;
@@ -99,4 +102,42 @@ fn count_before(list: &[(Time, Version)], after: &Option<Time>) -> usize
         Some(time) => count_until(list, *time),
         None => 0,
     }
+}
+
+/// Whether the versions are in turn. Cost: O(n), n versions.
+pub(crate) fn are_in_turn(list: &[(Time, Version)]) -> bool
+    requires { AreByBirth list.now }
+    ensures { OnTrue result (AreInTurn (listed list.now)) }
+{
+    let mut latest = Time::zero();
+    for (born, version) in list {
+        if *born < latest {
+            return false;
+        }
+        latest = later_end(version, latest);
+    }
+    true
+}
+
+/// The end of a version, where it is known and after this time, else this time.
+fn later_end(version: &Version, time: Time) -> Time
+    ensures rises { time ≤ result }
+    ensures ended { IfSome version.now.died (λ died. died ≤ result) }
+{
+    match version.died() {
+        Some(died) if time < died => died,
+        _ => time,
+    }
+}
+
+/// The bounds of the versions. Cost: O(n), n versions.
+pub(crate) fn bounds_of(list: &[(Time, Version)]) -> Bounds
+    requires { AreByBirth list.now }
+    ensures { AreBounded (finmap.get (listed list.now)) result }
+{
+    let mut bounds = Bounds::none();
+    for (born, version) in list {
+        bounds = bounds.with(*born, version.died());
+    }
+    bounds
 }

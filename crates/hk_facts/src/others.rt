@@ -5,7 +5,7 @@ ghost use Rattle.std.specs.Option.{option_copied, option_map};
 ghost use Rattle.std.specs.FinMap as finmap;
 ghost use Rattle.hk_types.specs.declared.faults.Refusal.TheVariants.{Memory};
 ghost use Rattle.hk_facts.specs.declared.fact.Fact.TheVariants.{Row as RowFact, End as EndFact};
-ghost use Rattle.hk_facts.specs.Chains.{chain_put, chain_forget, chain_until, is_new_to, latest_at, is_after, FirstBorn, RefusesPut};
+ghost use Rattle.hk_facts.specs.Chains.{chain_put, chain_forget, chain_until, is_new_to, latest_at, is_after, FirstBorn, LastBefore, RefusesPut};
 ghost use Rattle.hk_facts.specs.Listed.{listed, AreByBirth};
 ghost use Rattle.hk_facts.specs.Parted.{both, AreApart, NoRows, lone_end};
 
@@ -154,6 +154,15 @@ impl Others {
         let row = self.rows.next(after);
         let end = self.ends.next(after);
         if is_earlier(&row, &end) { row } else { end }
+    }
+
+    /// The version born last before a time, with the time of its birth. It takes no memory. Cost: O(log n), n versions.
+    pub(crate) fn last_before(&self, time: Time) -> Option<(Time, &Version)>
+        ensures { LastBefore self.now time (option_map (λ p. (p.0, p.1.now)) result) }
+    {
+        let row = self.rows.last_before(time);
+        let end = self.ends.last_before(time);
+        if is_later(&row, &end) { row } else { end }
     }
 
     pub(crate) fn is_empty(&self) -> bool

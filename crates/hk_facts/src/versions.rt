@@ -8,7 +8,7 @@ ghost use Rattle.std.specs.FinMap as finmap;
 ghost use Rattle.hk_types.specs.declared.faults.Refusal.TheVariants.{Memory};
 ghost use Rattle.hk_model.specs.Replica.Content.{at_most};
 ghost use Rattle.hk_facts.specs.Listed.{AreByBirth, IsPartOf};
-ghost use Rattle.hk_facts.specs.Chains.{chain_put, chain_forget, chain_until, is_new_to, latest_at, is_after, FirstBorn, RefusesPut};
+ghost use Rattle.hk_facts.specs.Chains.{chain_put, chain_forget, chain_until, is_new_to, latest_at, is_after, FirstBorn, LastBefore, RefusesPut};
 
 use crate::fact::{Fact, Part, join, take_back, version_of};
 use hk_log::Version;
@@ -146,6 +146,17 @@ impl Versions {
     {
         let mut later = self.versions.range((Excluded(time), Unbounded));
         match later.next() {
+            Some((born, version)) => Some((*born, version)),
+            None => None,
+        }
+    }
+
+    /// The version born last before a time, with the time of its birth. It takes no memory. Cost: O(log n), n versions.
+    pub(crate) fn last_before(&self, time: Time) -> Option<(Time, &Version)>
+        ensures { LastBefore self.now time (option_map (λ p. (p.0, p.1.now)) result) }
+    {
+        let mut earlier = self.versions.range(..time);
+        match earlier.next_back() {
             Some((born, version)) => Some((*born, version)),
             None => None,
         }

@@ -26,7 +26,8 @@ use Rattle.hk_marks.specs.Steps.{extra_numbers}
 use Rattle.hk_fragment.specs.Parts.{Known, versions_listed, follows, is_valid_row, is_valid_end, is_valid_fact, facts_fault}
 use Rattle.hk_answers.specs.Readers.{Chained, DiedFits}
 use Rattle.hk_answers.specs.Answers.{PresentFits}
-use Rattle.hk_fragment_bytes.specs.Fragments.{greatest_reached, wire_stream_of, wire_fragment_of, number_follows, least_closed_of, ExtraFits, WaitingFits, StreamFits, FactFits, PartsFit, KnownFits, FragmentFits}
+use Rattle.hk_marks.specs.Told.{prefix_of}
+use Rattle.hk_fragment_bytes.specs.Fragments.{wire_stream_of, wire_fragment_of, number_follows, least_closed_of, ExtraFits, WaitingFits, StreamFits, FactFits, PartsFit, KnownFits, FragmentFits}
 use Rattle.hk_fragment_bytes.proofs.OneWireFragment.{greatest_covered_too, reached_law, extra_told}
 
 first : (a b : Bool) → (a && b) ≡ true → a ≡ true
@@ -107,9 +108,6 @@ beyond t p q c law there un =
         let is : suc p ≡ q = omega arith in
         let next : set.contains t (suc p) ≡ true = ap (set.contains t) is ∙ there in
         absurd (true≢false (sym ((λ i. next i && c i)) ∙ ap (covers t) is ∙ un))
-
-abbrev prefix_of : StreamContent → ℕ
-prefix_of s = greatest_reached s.taken (set.items s.taken)
 
 abbrev extras_of : StreamContent → finmap.FinMap nat_cmp ℕ
 extras_of s = finmap.from_entries {R = nat_cmp} (map (λ n. (n, n)) (set.items (extra_numbers s)))

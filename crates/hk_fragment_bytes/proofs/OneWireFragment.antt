@@ -20,8 +20,10 @@ use Rattle.hk_marks.specs.Seen.{IsNumbered}
 use Rattle.hk_marks.specs.Steps.{extra_numbers}
 use Rattle.hk_fragment.specs.Parts.{known_of, versions_listed}
 use Rattle.hk_fragment.proofs.ListedVersions.{listed_of, pairs}
-use Rattle.hk_fragment_bytes.specs.Fragments.{WireFragment, WireStream, greatest_reached, wire_stream_of, wire_fragment_of}
-use Rattle.hk_fragment_bytes.proofs.StreamRead.{reached_there, rising_has}
+use Rattle.hk_fragment_bytes.specs.Fragments.{WireFragment, WireStream, wire_stream_of, wire_fragment_of}
+use Rattle.hk_marks.specs.Told.{greatest_reached}
+use Rattle.hk_marks.proofs.Prefixes.{reached_there}
+use Rattle.hk_fragment_bytes.proofs.StreamRead.{rising_has}
 
 -- ---- streams
 

@@ -21,9 +21,10 @@ use Rattle.hk_marks.proofs.CoveredMarks.{settled-done, mark_waits}
 use Rattle.hk_marks.proofs.TakenItems.{later_comm}
 use Rattle.hk_marks.proofs.StoredStreams.{contains-up_to, covers_seen}
 use Rattle.hk_marks.proofs.Readers.{entries-from_sorted}
-use Rattle.hk_marks.proofs.Prefixes.{len-rising}
+use Rattle.hk_marks.specs.Told.{greatest_reached}
+use Rattle.hk_marks.proofs.Prefixes.{len-rising, prefix_reached}
 use Rattle.hk_answers.specs.Readers.{Chained}
-use Rattle.hk_fragment_bytes.specs.Fragments.{greatest_reached, rising_numbers, wire_stream_of, ExtraFits, WaitingFits}
+use Rattle.hk_fragment_bytes.specs.Fragments.{rising_numbers, wire_stream_of, ExtraFits, WaitingFits}
 use Rattle.hk_fragment_bytes.specs.FragmentSteps.{stream_made, stream_without_marks}
 use Rattle.hk_fragment_bytes.proofs.ListsInOrder.{places_rise, chained_more, last_of}
 
@@ -150,38 +151,6 @@ waits_more prefix t closed waiting k m law h fit =
     uncovered q lt = law q ∙ lt-leb q prefix lt
 
 -- ---- what is told
-
-reached_most : (t : set.FinSet nat_cmp) (p : ℕ) → ((n : ℕ) → covers t n ≡ leb n p) → (ks : List ℕ) → greatest_reached t ks ≤ p
-reached_most t p law [] = omega arith
-reached_most t p law (k ∷ ks) = by (covers t k) refl (reached_most t p law ks)
-  where
-    by : (b : Bool) → covers t k ≡ b → greatest_reached t ks ≤ p → cond b (max k (greatest_reached t ks)) (greatest_reached t ks) ≤ p
-    by true c le = let l : k ≤ p = leb-true k p (sym (law k) ∙ c) in omega arith
-    by false c le = le
-
-pub reached_there : (t : set.FinSet nat_cmp) (p : ℕ) → covers t p ≡ true → (ks : List ℕ) → list_any (eq_by_cmp nat_cmp p) ks ≡ true → p ≤ greatest_reached t ks
-reached_there t p c [] e = absurd cc
-reached_there t p c (k ∷ ks) e = by (eq_by_cmp nat_cmp p k) refl e (covers t k) refl (reached_there t p c ks)
-  where
-    by : (b : Bool) → eq_by_cmp nat_cmp p k ≡ b → (b || list_any (eq_by_cmp nat_cmp p) ks) ≡ true → (d : Bool) → covers t k ≡ d → (list_any (eq_by_cmp nat_cmp p) ks ≡ true → p ≤ greatest_reached t ks) → p ≤ cond d (max k (greatest_reached t ks)) (greatest_reached t ks)
-    by true s f true g rest = let is : p ≡ k = tied_counts p k s in omega (arith, is)
-    by true s f false g rest = absurd (true≢false (sym c ∙ ap (covers t) (tied_counts p k s) ∙ g))
-    by false s f true g rest = let l = rest f in omega arith
-    by false s f false g rest = rest f
-
--- the prefix is the greatest number that is reached
-pub prefix_reached : (t : set.FinSet nat_cmp) (p : ℕ) → ((n : ℕ) → covers t n ≡ leb n p) → greatest_reached t (set.items t) ≡ p
-prefix_reached t zero law = let le = reached_most t 0 law (set.items t) in omega arith
-prefix_reached t (suc p) law =
-    let le = reached_most t (suc p) law (set.items t) in
-    let all : covers t (suc p) ≡ true = law (suc p) ∙ le-leb (suc p) (suc p) (omega arith) in
-    let there : list_any (eq_by_cmp nat_cmp (suc p)) (set.items t) ≡ true = sym (set.contains-items t (suc p)) ∙ first (set.contains t (suc p)) (covers t p) all in
-    let ge = reached_there t (suc p) all (set.items t) there in
-    omega arith
-  where
-    first : (a b : Bool) → (a && b) ≡ true → a ≡ true
-    first true b e = refl
-    first false b e = e
 
 -- numbers paired with themselves
 abbrev pub paired : List ℕ → List (ℕ × ℕ)

@@ -12,6 +12,7 @@ use Rattle.hk_log.specs.Versions.{VersionValue}
 use Rattle.hk_model.specs.Replica.Streams.{StreamContent, covers, stream_at as content_at}
 use Rattle.hk_model.specs.Replica.Fragments.{FragmentValue}
 use Rattle.hk_marks.specs.Steps.{extra_numbers}
+use Rattle.hk_marks.specs.Told.{prefix_of}
 use Rattle.hk_fragment.specs.Parts.{Known, versions_listed, follows, is_valid_end}
 use Rattle.hk_frames.specs.Fields.{number, number_at, list_at}
 use Rattle.hk_answers.specs.Readers.{Reader, both, after, fault_where, mapped_value, by_kind, list_by_count, time_at, Chained, stream_count_at, DiedFits}
@@ -33,11 +34,6 @@ pub record WireFragment : Type 0 where
   pub streams : List WireStream
   pub facts : List Known
 
--- the greatest of these numbers up to which all are taken, else 0
-abbrev pub greatest_reached : set.FinSet nat_cmp → List ℕ → ℕ
-greatest_reached taken [] = 0
-greatest_reached taken (q ∷ numbers) = if covers taken q then max q (greatest_reached taken numbers) else greatest_reached taken numbers
-
 -- these numbers in rising order, each once
 abbrev pub rising_numbers : List ℕ → List ℕ
 rising_numbers numbers = finmap.keys (finmap.from_entries {R = nat_cmp} (map (λ n. (n, n)) numbers))
@@ -46,7 +42,7 @@ rising_numbers numbers = finmap.keys (finmap.from_entries {R = nat_cmp} (map (λ
 abbrev pub wire_stream_of : StreamContent → WireStream
 wire_stream_of s =
     record {
-      prefix = greatest_reached s.taken (set.items s.taken);
+      prefix = prefix_of s;
       closed = s.closed;
       extra = rising_numbers (set.items (extra_numbers s));
       waiting = finmap.entries s.waiting;

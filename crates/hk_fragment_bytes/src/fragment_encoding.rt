@@ -157,7 +157,7 @@ pub(crate) fn head_len(config: Config, base: Time, horizon: Time) -> u64
     ensures base { base ≤ 2 ^ 62 }
     ensures horizon { horizon ≤ 2 ^ 62 }
 {
-    let _known = config.streams();
+    let _in_range = config.streams();
     number_len(config.log()) + 2 + time_len(base) + time_len(horizon)
 }
 
@@ -174,7 +174,7 @@ pub fn fragment_len(fragment: &Fragment) -> u64
 }
 
 /// Adds the numbers above the prefix that are applied, behind their count.
-#[tactic(auto, using(std::proofs::Common::append_assoc, hk_frames::proofs::Prefix::kept_all, hk_frames::proofs::Prefix::kept_before, hk_frames::proofs::Prefix::kept_both))]
+#[tactic(auto, using(hk_frames::proofs::Put::all))]
 fn put_extras(out: &mut Vec<u8>, got: &Got, s: StreamNo) -> Result<(), AllocError>
     requires known { s ≤ length got.now }
     requires counted { spec.stream_is_counted (spec.wire_stream_at got.now s) ≡ true }
@@ -189,7 +189,7 @@ fn put_extras(out: &mut Vec<u8>, got: &Got, s: StreamNo) -> Result<(), AllocErro
 }
 
 /// Adds a waiting mark.
-#[tactic(auto, using(std::proofs::Common::append_assoc, hk_frames::proofs::Prefix::kept_all, hk_frames::proofs::Prefix::kept_before, hk_frames::proofs::Prefix::kept_both))]
+#[tactic(auto, using(hk_frames::proofs::Put::all))]
 fn put_mark(out: &mut Vec<u8>, count: u64, upto: Time) -> Result<(), AllocError>
     ensures ok { OnOk result (out.new.items ≡ out.old.items ++ spec.mark_text (count, upto)) }
     ensures kept { OnErr result (take (length out.old.items) out.new.items ≡ out.old.items) }
@@ -199,7 +199,7 @@ fn put_mark(out: &mut Vec<u8>, count: u64, upto: Time) -> Result<(), AllocError>
 }
 
 /// Adds the marks that wait, behind their count.
-#[tactic(auto, using(std::proofs::Common::append_assoc, hk_frames::proofs::Prefix::kept_all, hk_frames::proofs::Prefix::kept_before, hk_frames::proofs::Prefix::kept_both))]
+#[tactic(auto, using(hk_frames::proofs::Put::all))]
 fn put_waits(out: &mut Vec<u8>, got: &Got, s: StreamNo) -> Result<(), AllocError>
     requires known { s ≤ length got.now }
     requires counted { spec.stream_is_counted (spec.wire_stream_at got.now s) ≡ true }
@@ -222,7 +222,7 @@ fn prefix(got: &Got, s: StreamNo) -> u64
 }
 
 /// Adds the state of a stream.
-#[tactic(auto, using(std::proofs::Common::append_assoc, hk_frames::proofs::Prefix::kept_all, hk_frames::proofs::Prefix::kept_before, hk_frames::proofs::Prefix::kept_both), unfolding(crate::specs::Fragments::stream_text))]
+#[tactic(auto, using(hk_frames::proofs::Put::all), unfolding(crate::specs::Fragments::stream_text))]
 fn put_stream(out: &mut Vec<u8>, got: &Got, s: StreamNo) -> Result<(), AllocError>
     requires known { s ≤ length got.now }
     requires counted { spec.stream_is_counted (spec.wire_stream_at got.now s) ≡ true }
@@ -236,7 +236,7 @@ fn put_stream(out: &mut Vec<u8>, got: &Got, s: StreamNo) -> Result<(), AllocErro
 }
 
 /// Adds the states of the streams.
-#[tactic(auto, using(std::proofs::Common::append_assoc, hk_frames::proofs::Prefix::kept_all, hk_frames::proofs::Prefix::kept_before, hk_frames::proofs::Prefix::kept_both))]
+#[tactic(auto, using(hk_frames::proofs::Put::all))]
 pub(crate) fn put_streams(out: &mut Vec<u8>, got: &Got) -> Result<(), AllocError>
     requires { spec.streams_are_counted (map spec.wire_stream_of got.now) ≡ true }
     ensures ok { OnOk result (out.new.items ≡ out.old.items ++ spec.streams_text got.now) }
@@ -264,7 +264,7 @@ fn flags(known: &Version) -> u8
 }
 
 /// Adds what is known of a version.
-#[tactic(auto, using(std::proofs::Common::append_assoc, hk_frames::proofs::Prefix::kept_all, hk_frames::proofs::Prefix::kept_before, hk_frames::proofs::Prefix::kept_both))]
+#[tactic(auto, using(hk_frames::proofs::Put::all))]
 fn put_known(out: &mut Vec<u8>, known: &Version) -> Result<(), AllocError>
     ensures ok { OnOk result (out.new.items ≡ out.old.items ++ spec.known_parts known.now) }
     ensures kept { OnErr result (take (length out.old.items) out.new.items ≡ out.old.items) }
@@ -279,7 +279,7 @@ fn put_known(out: &mut Vec<u8>, known: &Version) -> Result<(), AllocError>
 }
 
 /// Adds a version.
-#[tactic(auto, using(std::proofs::Common::append_assoc, hk_frames::proofs::Prefix::kept_all, hk_frames::proofs::Prefix::kept_before, hk_frames::proofs::Prefix::kept_both))]
+#[tactic(auto, using(hk_frames::proofs::Put::all))]
 fn put_version(out: &mut Vec<u8>, version: VersionKey) -> Result<(), AllocError>
     ensures ok { OnOk result (out.new.items ≡ out.old.items ++ spec.version_text version) }
     ensures kept { OnErr result (take (length out.old.items) out.new.items ≡ out.old.items) }
@@ -290,7 +290,7 @@ fn put_version(out: &mut Vec<u8>, version: VersionKey) -> Result<(), AllocError>
 }
 
 /// Adds a fact.
-#[tactic(auto, using(std::proofs::Common::append_assoc, hk_frames::proofs::Prefix::kept_all, hk_frames::proofs::Prefix::kept_before, hk_frames::proofs::Prefix::kept_both), unfolding(crate::specs::Fragments::fact_text))]
+#[tactic(auto, using(hk_frames::proofs::Put::all), unfolding(crate::specs::Fragments::fact_text))]
 fn put_fact(out: &mut Vec<u8>, version: VersionKey, known: &Version) -> Result<(), AllocError>
     ensures ok { OnOk result (out.new.items ≡ out.old.items ++ spec.fact_text (version, known.now)) }
     ensures kept { OnErr result (take (length out.old.items) out.new.items ≡ out.old.items) }
@@ -302,7 +302,7 @@ fn put_fact(out: &mut Vec<u8>, version: VersionKey, known: &Version) -> Result<(
 
 /// Adds facts from the one of this number on: all that are left, or as many as have more than so many bytes. Returns the
 /// number of the next fact, which is how many facts there are where none is left. Cost: O(n), n bytes added.
-#[tactic(auto, using(std::proofs::Common::append_assoc, hk_frames::proofs::Prefix::kept_all, hk_frames::proofs::Prefix::kept_before, hk_frames::proofs::Prefix::kept_both))]
+#[tactic(auto, using(hk_frames::proofs::Put::all))]
 pub fn put_facts_from(
     out: &mut Vec<u8>,
     facts: &[(VersionKey, Version)],
@@ -338,7 +338,7 @@ fn put_all_facts(out: &mut Vec<u8>, facts: &[(VersionKey, Version)]) -> Result<(
 }
 
 /// Adds the facts behind their count.
-#[tactic(auto, using(std::proofs::Common::append_assoc, hk_frames::proofs::Prefix::kept_all, hk_frames::proofs::Prefix::kept_before, hk_frames::proofs::Prefix::kept_both))]
+#[tactic(auto, using(hk_frames::proofs::Put::all))]
 pub fn put_facts(out: &mut Vec<u8>, facts: &[(VersionKey, Version)]) -> Result<(), AllocError>
     requires { length facts.now ≤ 4294967295 }
     ensures ok { OnOk result (out.new.items ≡ out.old.items ++ spec.facts_text facts.now) }
@@ -349,7 +349,7 @@ pub fn put_facts(out: &mut Vec<u8>, facts: &[(VersionKey, Version)]) -> Result<(
 }
 
 /// Adds what a fragment's bytes have before its facts: the head, the states of the streams, and how many facts there are.
-#[tactic(auto, using(std::proofs::Common::append_assoc, hk_frames::proofs::Prefix::kept_all, hk_frames::proofs::Prefix::kept_before, hk_frames::proofs::Prefix::kept_both), unfolding(crate::specs::Fragments::fragment_front))]
+#[tactic(auto, using(hk_frames::proofs::Put::all), unfolding(crate::specs::Fragments::fragment_front))]
 pub fn put_fragment_front(out: &mut Vec<u8>, fragment: &Fragment) -> Result<(), AllocError>
     requires { spec.is_counted (spec.wire_fragment_of fragment.now) ≡ true }
     ensures ok { OnOk result (out.new.items
@@ -366,7 +366,7 @@ pub fn put_fragment_front(out: &mut Vec<u8>, fragment: &Fragment) -> Result<(), 
 }
 
 /// Adds a fragment's bytes.
-#[tactic(auto, using(hk_frames::proofs::Prefix::kept_before, hk_frames::proofs::Prefix::kept_both))]
+#[tactic(auto, using(hk_frames::proofs::Put::all))]
 pub fn put_fragment(out: &mut Vec<u8>, fragment: &Fragment) -> Result<(), AllocError>
     requires { spec.is_counted (spec.wire_fragment_of fragment.now) ≡ true }
     ensures ok { OnOk result (out.new.items ≡ out.old.items

@@ -103,13 +103,13 @@ impl FragmentHead {
         ensures bound { result ≤ 2 ^ 44 }
         ensures fits { spec.HeadFits (spec.wire_head_of self.now) }
     {
-        let _known = self.got.streams();
+        let _lawful = self.got.streams();
         let start = head_len(self.config, self.base, self.horizon);
         start + streams_len(&self.got) + number_len(self.count)
     }
 
     /// Adds a head's bytes.
-    #[tactic(auto, using(std::proofs::Common::append_assoc, hk_frames::proofs::Prefix::kept_all, hk_frames::proofs::Prefix::kept_before, hk_frames::proofs::Prefix::kept_both), unfolding(crate::specs::Parts::head_text))]
+    #[tactic(auto, using(hk_frames::proofs::Put::all), unfolding(crate::specs::Parts::head_text))]
     pub fn put_to(&self, out: &mut Vec<u8>) -> Result<(), AllocError>
         requires { spec.head_is_counted (spec.wire_head_of self.now) ≡ true }
         ensures ok { OnOk result (out.new.items ≡ out.old.items

@@ -4,3 +4,4 @@ pub mod Numbers
 pub mod ReadingLoop
 pub mod OneFrame
 pub mod FrameStream
+pub mod Put

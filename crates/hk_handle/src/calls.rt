@@ -8,7 +8,7 @@ ghost use Rattle.hk_handle.specs.Pages.{WritesFound};
 use crate::found::{Bounds, Found, Paged};
 use crate::replica::Replica;
 use hk_model::{Page, Query};
-use hk_session::Host;
+use hk_session_parts::Host;
 use hk_state::front_of;
 use hk_types::{Key, Refusal, Row, Table};
 use std::alloc::Global;

@@ -7,9 +7,9 @@ ghost use Rattle.hk_handle.specs.Calls.{Absorbed, Asked, Merged, Pruned, Taken, 
 use crate::replica::Replica;
 use hk_codec::Feeder;
 use hk_log::Item;
-use hk_session::Host;
+use hk_messages::{LaterReply, Reply, Request};
+use hk_session_parts::Host;
 use hk_types::{Refusal, Time};
-use hk_wire::{LaterReply, Reply, Request};
 use std::alloc::Global;
 use std::mem::replace;
 

@@ -9,7 +9,7 @@ use hk_frames::{put_body, put_u32, put_u64};
 use hk_types::{Key, Row};
 use std::alloc::AllocError;
 
-#[tactic(auto, using(std::proofs::Common::append_assoc), unfolding(hk_answers::specs::Answers::keyed_text, hk_answers::specs::Answers::row_text))]
+#[tactic(auto, using(hk_frames::proofs::Put::all), unfolding(hk_answers::specs::Answers::keyed_text, hk_answers::specs::Answers::row_text))]
 fn put_keyed(out: &mut Vec<u8>, key: Key, row: &Row) -> Result<(), AllocError>
     ensures { OnOk result (out.new.items ≡ out.old.items ++ keyed_text (key, row.now)) }
 {

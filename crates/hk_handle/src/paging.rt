@@ -9,7 +9,7 @@ ghost use Rattle.hk_handle.specs.Pages.{IsPage, KeepsPage, TellsPage, first_rows
 use crate::found::Paged;
 use crate::listing::put_all;
 use crate::replica::Replica;
-use hk_model::{Page, Query};
+use hk_model::{Page, PageQuery, Query};
 use hk_query::page;
 use hk_types::{Key, Refusal, Row, Table, Tag, Time};
 use std::alloc::{AllocError, Global};
@@ -55,7 +55,14 @@ impl Replica {
         ensures { IsPage (ranged_page self.now.host.content time table low high most) result }
     {
         let time = Time::new(time)?;
-        page(alloc, self.host.state(), time, table, low, high, most)
+        let of = PageQuery {
+            time,
+            table,
+            low,
+            high,
+            most,
+        };
+        page(alloc, self.host.state(), of)
     }
 
     /// The first rows of a table with a tag, from a key on, at a time.

@@ -4,6 +4,8 @@ use mathlib.Core.List.{IsPrefix}
 use Rattle.hk_types.specs.declared.faults.FormFault.TheVariants.{BadKind}
 use Rattle.hk_types.specs.declared.faults.Refusal.{Refusal}
 use Rattle.hk_types.specs.declared.faults.Refusal.TheVariants.{Form}
+use Rattle.hk_doors.specs.declared.passes.Passes.{Passes}
+use Rattle.hk_doors.specs.declared.passes.Passes.TheVariants.{All, Feeds, Readings}
 use Rattle.hk_messages.specs.Replies.{Done, Refused}
 use Rattle.hk_oplog.specs.declared.op.Hold.{Hold}
 use Rattle.hk_oplog.specs.declared.op.NodeKind.{NodeKind}
@@ -36,3 +38,14 @@ RefusesHold old time result new = (result ≡ Err (None, Form BadKind)) × (new 
 -- the release of a hold of a host that only reads
 abbrev pub RefusesRelease : List Op → Hold → Result ℕ (Option Hold × Refusal) → List Op → Type 0
 RefusesRelease old hold result new = (result ≡ Err (Some hold, Form BadKind)) × (new ≡ old)
+
+-- a pin at a time by a connection that passes so, and its release: just one that may do everything has them
+abbrev pub HoldsBy : Passes → NodeKind → List Op → ℕ → Result Hold (Option Hold × Refusal) → List Op → Type 0
+HoldsBy All kind old time result new = TakesHold kind old time result new
+HoldsBy Feeds kind old time result new = RefusesHold old time result new
+HoldsBy Readings kind old time result new = RefusesHold old time result new
+
+abbrev pub ReleasesBy : Passes → NodeKind → List Op → Hold → Result ℕ (Option Hold × Refusal) → List Op → Type 0
+ReleasesBy All kind old hold result new = ReleasesHold kind old hold result new
+ReleasesBy Feeds kind old hold result new = RefusesRelease old hold result new
+ReleasesBy Readings kind old hold result new = RefusesRelease old hold result new

@@ -6,9 +6,10 @@ ghost use Rattle.hk_oplog.specs.Replay.{is_legal};
 ghost use Rattle.hk_host.specs.Pins.{ReleasesHold, TakesHold};
 
 use crate::link_events::Teller;
-use crate::seat_host::SeatHost;
 use crate::subject::Subject;
-use hk_node::{Hold, Node, NodeName};
+use hk_node::{Node, NodeName, ReaderSeat};
+use hk_oplog::Hold;
+use hk_seats::learn;
 use hk_types::{Refusal, Time};
 use std::sync::Wait;
 
@@ -35,16 +36,16 @@ pub(crate) fn tell_refused<R: Wait>(
 pub(crate) fn hold_on<J: NodeName, N: Wait + Drop, R: Wait>(
     rt: &R,
     node: &Node<J, N>,
-    reads: &mut SeatHost<J>,
+    seat: &mut ReaderSeat<J>,
     teller: Option<&Teller<'_>>,
     time: Time,
 ) -> Result<Hold, (Option<Hold>, Refusal)>
-    ensures held { TakesHold J.kind reads.old time result reads.new }
-    ensures legal { is_legal reads.new ≡ true }
-    ensures seen { IsPrefix reads.old reads.new }
+    ensures held { TakesHold J.kind seat.old time result seat.new }
+    ensures legal { is_legal seat.new ≡ true }
+    ensures seen { IsPrefix seat.old seat.new }
 {
     match node.hold(rt, time) {
-        Ok((hold, receipt)) => match reads.learn(receipt) {
+        Ok((hold, receipt)) => match learn(seat, receipt) {
             Ok(ops) => {
                 tell_changed(rt, teller, ops);
                 Ok(hold)
@@ -55,7 +56,7 @@ pub(crate) fn hold_on<J: NodeName, N: Wait + Drop, R: Wait>(
             }
         },
         Err((hold, why)) => {
-            let _known = reads.seat.seen();
+            let _legal = seat.seen();
             tell_refused(rt, teller, &why, None);
             Err((hold, why))
         }
@@ -66,16 +67,16 @@ pub(crate) fn hold_on<J: NodeName, N: Wait + Drop, R: Wait>(
 pub(crate) fn release_on<J: NodeName, N: Wait + Drop, R: Wait>(
     rt: &R,
     node: &Node<J, N>,
-    reads: &mut SeatHost<J>,
+    seat: &mut ReaderSeat<J>,
     teller: Option<&Teller<'_>>,
     hold: Hold,
 ) -> Result<u64, (Option<Hold>, Refusal)>
-    ensures released { ReleasesHold J.kind reads.old hold result reads.new }
-    ensures legal { is_legal reads.new ≡ true }
-    ensures seen { IsPrefix reads.old reads.new }
+    ensures released { ReleasesHold J.kind seat.old hold result seat.new }
+    ensures legal { is_legal seat.new ≡ true }
+    ensures seen { IsPrefix seat.old seat.new }
 {
     match node.release(rt, hold) {
-        Ok(receipt) => match reads.learn(receipt) {
+        Ok(receipt) => match learn(seat, receipt) {
             Ok(ops) => {
                 tell_changed(rt, teller, ops);
                 Ok(ops)
@@ -86,7 +87,7 @@ pub(crate) fn release_on<J: NodeName, N: Wait + Drop, R: Wait>(
             }
         },
         Err((back, why)) => {
-            let _known = reads.seat.seen();
+            let _legal = seat.seen();
             tell_refused(rt, teller, &why, None);
             Err((back, why))
         }

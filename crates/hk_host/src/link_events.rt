@@ -3,7 +3,7 @@
 use crate::bell::Bell;
 use crate::subject::Subject;
 use crossbeam_channel::Sender;
-use hk_session::Ended;
+use hk_session_parts::Ended;
 use std::alloc::AllocError;
 use std::net::SocketAddr;
 use std::sync::Wait;

@@ -4,8 +4,10 @@ ghost use Rattle.std.specs.Prelude.{◌≡◌};
 ghost use mathlib.Core.List.{IsPrefix};
 ghost use Rattle.hk_host.specs.Serving.{Runs};
 
-use hk_link::{LinkState, NodeSide, PartsHost};
-use hk_session::{Counted, Ended, Waiter, serve_waiting};
+use hk_link::PartsHost;
+use hk_link_state::{LinkState, NodeSide};
+use hk_session::serve_waiting;
+use hk_session_parts::{Counted, Ended, Waiter};
 use std::alloc::Global;
 use std::io::{Read, Write};
 

@@ -1,8 +1,8 @@
 //! What a change begins with, for who reads that it was refused.
 
 use hk_log::{Entry, Item};
+use hk_messages::Request;
 use hk_types::{Key, Table, Time};
-use hk_wire::Request;
 
 /// The first version that a change names: of its first entry the first row, or where it has none the first end, and the entry's time.
 #[derive(Clone, Copy, Debug, PartialEq, Eq)]

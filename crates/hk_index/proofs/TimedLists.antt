@@ -12,7 +12,7 @@ use Rattle.std.specs.Cmp.{IsTotalOrder, then_total, on_total, nat_cmp_total, Equ
 use Rattle.std.specs.FinMap as finmap
 use Rattle.std.specs.FinSet as set
 use Rattle.hk_model.specs.History.Rows.{RowKey, row_key_cmp}
-use Rattle.hk_model.proofs.Replica.Maps.{row_key_total, row_key_same}
+use Rattle.hk_model.proofs.Replica.Maps.{row_key_total, row_key_same, first_ties, second_ties, nat_ties}
 use Rattle.hk_index.proofs.StoredKeys.{same_number, then_tied}
 use Rattle.hk_index.specs.declared.span.Span.{Span}
 use Rattle.hk_index.specs.declared.timed_row.TimedRow.{TimedRow}
@@ -20,19 +20,6 @@ use Rattle.hk_index.specs.Timed.{timed_cmp, is_among, is_in, is_in_span, is_with
 
 pub timed_total : IsTotalOrder timed_cmp
 timed_total = then_total (on_total (λ (t : TimedRow). t.time) nat_cmp_total) (on_total (λ (t : TimedRow). t.row) row_key_total)
-
-first_ties : (a b : Ordering) → ordering_then a b ≡ Equal → a ≡ Equal
-first_ties Less b e = e
-first_ties Equal b e = refl
-first_ties Greater b e = e
-
-second_ties : (a b : Ordering) → ordering_then a b ≡ Equal → b ≡ Equal
-second_ties Less b e = cc
-second_ties Equal b e = e
-second_ties Greater b e = cc
-
-nat_ties : (a b : ℕ) → nat_cmp a b ≡ Equal → a ≡ b
-nat_ties a b e = set.nat_cmp-IsAntisymmetric a b e
 
 -- timed rows that tie are one
 pub timed_same : finmap.IsAntisymmetric timed_cmp

@@ -153,6 +153,6 @@ fn same(state: &ReplicaState) -> Told
     ensures outcome { told_seen result ≡ Done }
     ensures whole { rules.merge_result state.now state.now ≡ Ok state.now }
 {
-    let _known = state.horizon();
+    let _lawful = state.horizon();
     Told::Done
 }

@@ -11,9 +11,10 @@ ghost use Rattle.hk_laws.specs.Among.{Builds};
 ghost use Rattle.hk_laws.specs.Calls.{IsBuilt};
 ghost use Rattle.hk_primary.specs.Txns.{IsRefusal, with_write, write_refused};
 
+use hk_index::RowKey;
 use hk_log::MOST_WRITES;
 use hk_model::WriteOp;
-use hk_primary::{RowKey, Txn};
+use hk_primary::Txn;
 use hk_types::{Refusal, Time};
 use std::alloc::Global;
 

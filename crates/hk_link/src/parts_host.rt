@@ -8,13 +8,14 @@ ghost use Rattle.hk_oplog.specs.Replay.{is_legal};
 ghost use Rattle.hk_link_state.specs.LaterReplying.{AreLetGo, AsksHoldInPlace, IfTold, IsFirstReply, IsFull, IsHeld, IsLaterReply, IsOrMemory, IsReleased, JoinsMade, KeepsOther, LetsGo, MayReplyBoth, TellsLatest, TellsNumbers, TellsSizes, TellsTables, change_seen, content_of, latest_reply, page_reply, ready_reply, streams_reply};
 ghost use Rattle.hk_link_state.specs.LinkStates.{fresh_state, link_of};
 
+use hk_encodings::kind_of;
+use hk_fragment_bytes::FragmentHead;
 use hk_link_state::{LinkState, NodeSide, give, is_limited};
-use hk_model::{Front, Query};
+use hk_messages::{LaterReply, LaterRequest, Reply, Request};
+use hk_model::{Front, PageQuery, Query};
 use hk_oplog::{Hold, NodeSizes};
-use hk_session::Host;
-use hk_types::{FormFault, Key, Refusal, Table, Time};
-use hk_values::FragmentHead;
-use hk_wire::{LaterReply, LaterRequest, Reply, Request, kind_of};
+use hk_session_parts::Host;
+use hk_types::{FormFault, Refusal, Time};
 use std::marker::Model;
 
 /// At so many keys a worker looks for a short answer.
@@ -221,15 +222,15 @@ impl<'a, H: NodeSide + Drop> PartsHost<'a, H> {
         }
     }
 
-    fn page(&mut self, time: Time, table: Table, low: Key, high: Key, most: u32) -> LaterReply
+    fn page(&mut self, of: PageQuery) -> LaterReply
         ensures legal { is_legal (H.side.list self.new.inner) ≡ true }
         ensures seen { IsPrefix (H.side.list self.old.inner) (H.side.list self.new.inner) }
         ensures same { KeepsOther self.old self.new }
         ensures told { IsOrMemory
-            (page_reply (content_of H.side self.new) time table low high most) (reply_seen result) }
+            (page_reply (content_of H.side self.new) of) (reply_seen result) }
         ensures ready { H.ready self.old.inner → H.ready self.new.inner }
     {
-        match self.inner.page(time, table, low, high, most) {
+        match self.inner.page(of) {
             Ok(page) => LaterReply::Page(page),
             Err(why) => LaterReply::Refused(why),
         }
@@ -349,13 +350,7 @@ impl<'a, H: NodeSide + Drop> PartsHost<'a, H> {
         match request {
             LaterRequest::Streams => self.streams(),
             LaterRequest::AskLatest { query } => self.latest(&query),
-            LaterRequest::Page {
-                t,
-                table,
-                low,
-                high,
-                most,
-            } => self.page(t, table, low, high, most),
+            LaterRequest::Page(of) => self.page(of),
             LaterRequest::Await { .. } => self.ready(),
             LaterRequest::Stats => self.stats(),
             LaterRequest::Tables => self.tables(),
@@ -371,25 +366,15 @@ impl<'a, H: NodeSide + Drop> PartsHost<'a, H> {
     }
 
     /// The same page where it takes few looks.
-    fn page_briefly(
-        &mut self,
-        time: Time,
-        table: Table,
-        low: Key,
-        high: Key,
-        most: u32,
-    ) -> Option<LaterReply>
+    fn page_briefly(&mut self, of: PageQuery) -> Option<LaterReply>
         ensures legal { is_legal (H.side.list self.new.inner) ≡ true }
         ensures seen { IsPrefix (H.side.list self.old.inner) (H.side.list self.new.inner) }
         ensures same { KeepsOther self.old self.new }
         ensures told { IfTold result
-            (IsOrMemory (page_reply (content_of H.side self.new) time table low high most)) }
+            (IsOrMemory (page_reply (content_of H.side self.new) of)) }
         ensures ready { H.ready self.old.inner → H.ready self.new.inner }
     {
-        match self
-            .inner
-            .page_within(time, table, low, high, most, FEW_LOOKS)
-        {
+        match self.inner.page_within(of, FEW_LOOKS) {
             Ok(Some(page)) => Some(LaterReply::Page(page)),
             Ok(None) => None,
             Err(why) => Some(LaterReply::Refused(why)),
@@ -420,13 +405,7 @@ impl<'a, H: NodeSide + Drop> PartsHost<'a, H> {
         ensures ready { H.ready self.old.inner → H.ready self.new.inner }
     {
         match request {
-            LaterRequest::Page {
-                t,
-                table,
-                low,
-                high,
-                most,
-            } => self.page_briefly(*t, *table, *low, *high, *most),
+            LaterRequest::Page(of) => self.page_briefly(*of),
             LaterRequest::Tables => self.tables_briefly(),
             _ => None,
         }

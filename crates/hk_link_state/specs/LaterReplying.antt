@@ -5,6 +5,7 @@ use Rattle.hk_types.specs.declared.faults.FormFault.{FormFault}
 use Rattle.hk_types.specs.declared.faults.FormFault.TheVariants.{BadKind, BadOrder}
 use Rattle.hk_types.specs.declared.faults.Refusal.{Refusal}
 use Rattle.hk_types.specs.declared.faults.Refusal.TheVariants as refusals
+use Rattle.hk_model.specs.declared.page.PageQuery.{PageQuery}
 use Rattle.hk_model.specs.declared.front.Front.{Front}
 use Rattle.hk_model.specs.declared.query.Query.{Query}
 use Rattle.hk_model.specs.Replica.Answers.{AnswerValue}
@@ -26,7 +27,7 @@ use Rattle.hk_oplog.specs.declared.op.Hold.{Hold}
 use Rattle.hk_oplog.specs.declared.sizes.NodeSizes.{NodeSizes}
 use Rattle.hk_oplog.specs.NodeContent.{NodeContent}
 use Rattle.hk_oplog.specs.Replay.{is_legal, replay}
-use Rattle.hk_oplog.specs.Replies.{node_front, node_latest, node_page, node_streams}
+use Rattle.hk_oplog.specs.Replies.{node_front, node_latest, page_asked, node_streams}
 use Rattle.hk_link_state.specs.LinkStates.{LinkStateValue, LinkValue, OutgoingValue, more_step, whole_step, held_by, is_other_hold, with_place}
 use Rattle.hk_budgets.specs.Budgets.{most_pins}
 use Rattle.hk_link_state.specs.NodeNumbers.{AreSizesOf, AreTablesOf, sizes_metrics}
@@ -80,8 +81,8 @@ streams_reply c = Streams (node_streams c)
 abbrev pub latest_reply : NodeContent → Query → ReplyValue
 latest_reply c query = latest_told (node_latest c query)
 
-abbrev pub page_reply : NodeContent → ℕ → ℕ → ℕ → ℕ → ℕ → ReplyValue
-page_reply c t table low high most = page_told (node_page c t table low high most)
+abbrev pub page_reply : NodeContent → PageQuery → ReplyValue
+page_reply c of = page_told (page_asked c of)
 
 -- what is told of a query at the readable mark: the answer, or that memory ran out, or that it would find no room among what all links of
 -- the node keep
@@ -302,7 +303,7 @@ next_place (Some hold) place = place + 1
 abbrev pub IsLaterReply : {S : Type 0} → Sided S → (S → Request → Reply → S → Type 0) → LinkValue S → LaterRequest → ReplyValue → LinkValue S → Type 0
 IsLaterReply side may old asked.Streams reply new = Looks side old streams_reply reply new
 IsLaterReply side may old (asked.AskLatest query) reply new = LooksLatest side old query reply new
-IsLaterReply side may old (asked.Page t table low high most) reply new = Looks side old (λ c. page_reply c t table low high most) reply new
+IsLaterReply side may old (asked.Page of) reply new = Looks side old (λ c. page_reply c of) reply new
 IsLaterReply side may old (asked.Await t milliseconds) reply new = Looks side old ready_reply reply new
 IsLaterReply side may old asked.Stats reply new = LooksOnly side old new × TellsNumbers (content_of side new) reply
 IsLaterReply side may old asked.Tables reply new = LooksOnly side old new × TellsTables (content_of side new) reply

@@ -9,8 +9,8 @@ ghost use Rattle.hk_link_state.specs.LinkStates.{link_of};
 
 use crate::link_state::LinkState;
 use crate::node_side::NodeSide;
+use hk_messages::LaterReply;
 use hk_types::{Refusal, Time};
-use hk_wire::LaterReply;
 
 /// Whether a delta since a time, or for the time 0 the full snapshot, is cut by a node with this oldest readable time.
 fn is_cut(base: Time, horizon: Time) -> bool

@@ -7,10 +7,10 @@ ghost use Rattle.hk_link_state.specs.LinkStates.{weight, weight_counted};
 
 use hk_budgets::{PartsBudget, Room};
 use hk_fragment::Assembly;
+use hk_fragment_bytes::fragment_encoding::facts_len;
 use hk_log::Version;
+use hk_messages::LaterReply;
 use hk_types::{FormFault, Refusal, VersionKey};
-use hk_values::fragment_encoding::facts_len;
-use hk_wire::LaterReply;
 use std::alloc::Global;
 use std::marker::Model;
 

@@ -1,10 +1,10 @@
 //! What a host of a node offers beside version 1.
 
 use hk_fragment::Fragment;
-use hk_model::{Answer, Front, Page, Query, StreamsTold};
+use hk_model::{Answer, Front, Page, PageQuery, Query, StreamsTold};
 use hk_oplog::{Hold, NodeSizes};
-use hk_session::Host;
-use hk_types::{Key, Refusal, Table, Time};
+use hk_session_parts::Host;
+use hk_types::{Refusal, Table, Time};
 
 /// What a host over a seat of a node offers beside the requests of version 1. Each call that reads is answered by the
 /// seat, and takes no lock.
@@ -18,7 +18,7 @@ pub trait NodeSide: Host {
     ghost use Rattle.hk_oplog.specs.declared.op.Op.{Op};
     ghost use Rattle.hk_oplog.specs.declared.op.Hold.{Hold};
     ghost use Rattle.hk_oplog.specs.Replay.{is_legal, replay};
-    ghost use Rattle.hk_oplog.specs.Replies.{GivesOrMemory, GivesPageOrNone, GivesSeen, timed_seen, node_front, node_latest, node_page, node_streams};
+    ghost use Rattle.hk_oplog.specs.Replies.{GivesOrMemory, GivesPageOrNone, GivesSeen, timed_seen, node_front, node_latest, page_asked, node_streams};
     ghost use Rattle.hk_link_state.specs.NodeNumbers.{AreSizesOf, AreTablesOf};
     ghost use Rattle.hk_link_state.specs.NodeSides.{GoesOn, Sided, cut_of};
 
@@ -33,32 +33,17 @@ pub trait NodeSide: Host {
         ensures ready { Self.ready self.old → Self.ready self.new };
 
     /// The first page of the rows of a range at a time. Refusals and cost: as `ReaderSeat::page`.
-    fn page(
-        &mut self,
-        time: Time,
-        table: Table,
-        low: Key,
-        high: Key,
-        most: u32,
-    ) -> Result<Page, Refusal>
+    fn page(&mut self, of: PageQuery) -> Result<Page, Refusal>
         ensures legal { is_legal (side.list self.new) ≡ true }
         ensures seen { IsPrefix (side.list self.old) (side.list self.new) }
-        ensures page { GivesSeen page_seen (node_page (replay (side.list self.new)) time table low high most) result }
+        ensures page { GivesSeen page_seen (page_asked (replay (side.list self.new)) of) result }
         ensures ready { Self.ready self.old → Self.ready self.new };
 
     /// The same page where it takes at most so many looks at a key, else `None`. Refusals and cost: as `ReaderSeat::page_within`.
-    fn page_within(
-        &mut self,
-        time: Time,
-        table: Table,
-        low: Key,
-        high: Key,
-        most: u32,
-        looks: u64,
-    ) -> Result<Option<Page>, Refusal>
+    fn page_within(&mut self, of: PageQuery, looks: u64) -> Result<Option<Page>, Refusal>
         ensures legal { is_legal (side.list self.new) ≡ true }
         ensures seen { IsPrefix (side.list self.old) (side.list self.new) }
-        ensures page { GivesPageOrNone (replay (side.list self.new)) time table low high most result }
+        ensures page { GivesPageOrNone (replay (side.list self.new)) of.time of.table of.low of.high of.most result }
         ensures ready { Self.ready self.old → Self.ready self.new };
 
     /// The node's range of readable times. Refusals and cost: as `ReaderSeat::front`.

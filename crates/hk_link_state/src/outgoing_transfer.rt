@@ -9,10 +9,11 @@ ghost use Rattle.hk_link_state.specs.LinkStates.{begun, giving_after, part_told,
 use crate::incoming_parts::weight_of;
 use hk_budgets::{PartsBudget, Room};
 use hk_fragment::{Fragment, copy_facts};
+use hk_fragment_bytes::FragmentHead;
 use hk_log::Version;
+use hk_messages::LaterReply;
 use hk_types::{Refusal, VersionKey};
-use hk_values::{FragmentHead, Split, fragment_law};
-use hk_wire::LaterReply;
+use hk_values::{Split, fragment_law};
 use std::alloc::Global;
 use std::marker::Model;
 

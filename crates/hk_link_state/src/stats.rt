@@ -4,9 +4,9 @@ ghost use Rattle.std.specs.Prelude.{◌≡◌, ◌++◌, ◌∷◌, [], IfOk, On
 ghost use mathlib.Core.List.{IsPrefix};
 ghost use Rattle.hk_link_state.specs.NodeNumbers.{metric_of, sizes_metrics};
 
+use hk_answers::{Metric, metric_names as names};
 use hk_meters::Meters;
 use hk_oplog::NodeSizes;
-use hk_values::{Metric, metric_names as names};
 use std::alloc::{AllocError, Global};
 
 /// Adds a metric that has no label.

@@ -66,7 +66,7 @@ impl Entry {
         if !were_born(&ends, time) {
             return Err(FormFault::BadNumber);
         }
-        let _known = stream.number();
+        let _in_range = stream.number();
         Ok(Entry {
             log,
             stream,

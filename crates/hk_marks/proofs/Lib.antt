@@ -5,5 +5,6 @@ pub mod TakenItems
 pub mod Limits
 pub mod GotRules
 pub mod RoomForMore
+pub mod GoneOn
 pub mod JoinedStreams
 pub mod Prefixes

@@ -20,7 +20,7 @@ reached_most t p law (k ∷ ks) = by (covers t k) refl (reached_most t p law ks)
     by true c le = let l : k ≤ p = leb-true k p (sym (law k) ∙ c) in omega arith
     by false c le = le
 
-reached_there : (t : set.FinSet nat_cmp) (p : ℕ) → covers t p ≡ true → (ks : List ℕ) → list_any (eq_by_cmp nat_cmp p) ks ≡ true → p ≤ greatest_reached t ks
+pub reached_there : (t : set.FinSet nat_cmp) (p : ℕ) → covers t p ≡ true → (ks : List ℕ) → list_any (eq_by_cmp nat_cmp p) ks ≡ true → p ≤ greatest_reached t ks
 reached_there t p c [] e = absurd cc
 reached_there t p c (k ∷ ks) e = by (eq_by_cmp nat_cmp p k) refl e (covers t k) refl (reached_there t p c ks)
   where

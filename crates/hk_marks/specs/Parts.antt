@@ -8,7 +8,7 @@ use Rattle.std.specs.BTreeMap as tree
 use Rattle.std.specs.BTreeMap.{BTreeMap}
 use Rattle.hk_model.specs.Replica.Streams.{covers, stream_with}
 use Rattle.hk_model.proofs.Replica.Streams.{later, told}
-use Rattle.hk_marks.specs.Seen.{taken_seen, waiting_seen}
+use Rattle.hk_marks.specs.Seen.{up_to, taken_seen, waiting_seen}
 use Rattle.hk_numbers.specs.Runs.{numbers_seen}
 
 -- the numbers 1 to the prefix are all taken, and the next one is not
@@ -18,6 +18,14 @@ HasPrefix taken prefix = (n : ℕ) → covers taken n ≡ nat_le n prefix
 -- the numbers of two views of a stream: each has a prefix, and extra numbers in runs
 abbrev pub both_taken : ℕ → BTreeMap ℕ ℕ → ℕ → BTreeMap ℕ ℕ → set.FinSet nat_cmp
 both_taken prefix extra upto others = set.union (taken_seen prefix (numbers_seen extra)) (taken_seen upto (numbers_seen others))
+
+-- the numbers 1 to the prefix, and those of another view
+abbrev pub taken_beside : ℕ → ℕ → BTreeMap ℕ ℕ → set.FinSet nat_cmp
+taken_beside prefix upto others = set.union (up_to prefix) (taken_seen upto (numbers_seen others))
+
+-- above the prefix the numbers up to reach are there, and no others
+abbrev pub GoesOn : ℕ → ℕ → set.FinSet nat_cmp → Type 0
+GoesOn prefix reach numbers = (q : ℕ) → prefix < q → set.contains numbers q ≡ nat_le q reach
 
 -- the marks that the prefix covers were forgotten, and it is closed at least up to their times
 abbrev pub Settles : ℕ → ℕ → ℕ → BTreeMap ℕ ℕ → BTreeMap ℕ ℕ → Type 0

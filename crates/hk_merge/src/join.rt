@@ -60,7 +60,7 @@ pub fn merge(target: &mut ReplicaState, peer: &ReplicaState) -> Result<(), Refus
     ensures gives { Merges target.old target.new peer.now result }
     ensures represents { MergesOf target.old target.new peer.now result }
 {
-    let _known = peer.horizon();
+    let _lawful = peer.horizon();
     join_sent(target, &Sent::Whole(peer))
 }
 

@@ -6,6 +6,7 @@ ghost use Rattle.hk_types.specs.declared.faults.FormFault.TheVariants.{WrongLeng
 ghost use Rattle.hk_frames.specs.Fields.{GivesValue, check, number};
 ghost use Rattle.hk_message_head.specs.Messages.{head_at, message_text, version_of};
 
+use crate::request_kinds::STREAMS;
 use hk_frames::{Cursor, put_u32};
 use hk_types::FormFault;
 use std::alloc::AllocError;
@@ -16,14 +17,11 @@ pub const MOST_REST_BYTES: u32 = 268_435_456;
 /// How many bytes a rest has before its body: the version and the kind.
 pub const HEAD_BYTES: u64 = 2;
 
-/// The least kind of version 2.
-const FIRST_LATER_KIND: u8 = 48;
-
-/// The version of the messages of a kind.
+/// The version of the messages of a kind: from the first request of version 2 on, they are of it.
 fn version_of(kind: u8) -> u8
     ensures { result ≡ version_of kind }
 {
-    if kind < FIRST_LATER_KIND { 1 } else { 2 }
+    if kind < STREAMS { 1 } else { 2 }
 }
 
 /// Reads a version up to the latest that is read, and the kind, which it returns. Another version is `BadVersion`, a kind
@@ -54,7 +52,7 @@ pub fn read_end(cursor: &Cursor) -> Result<(), FormFault>
 }
 
 /// Adds the length of a rest, the version and the kind.
-#[tactic(auto, using(std::proofs::Common::append_assoc, hk_frames::proofs::Prefix::kept_all, hk_frames::proofs::Prefix::kept_before, hk_frames::proofs::Prefix::kept_both))]
+#[tactic(auto, using(hk_frames::proofs::Put::all))]
 pub fn put_plain_head(out: &mut Vec<u8>, rest: u32, kind: u8) -> Result<(), AllocError>
     ensures ok { OnOk result (out.new.items ≡ out.old.items ++ (number w32 rest ++ message_text kind [])) }
     ensures kept { OnErr result (take (length out.old.items) out.new.items ≡ out.old.items) }

@@ -1,5 +1,7 @@
-//! What each message begins and ends with, and the numbers in messages that have a limit.
+//! What each message begins and ends with, the kinds of messages, and the numbers in messages that have a limit.
 #![tactic(auto)]
 
 pub mod head;
 pub mod limits;
+pub mod reply_kinds;
+pub mod request_kinds;

@@ -75,3 +75,12 @@ refused_len why = simp (length-append, len64) refl
 pub reply_rest_len : (r : ReplyValue) → length (reply_rest r) ≡ 2 + length (reply_body r)
 unfolding reply_rest
 reply_rest_len r = omega arith
+
+-- of the bodies of requests of version 1
+pub ruleset request_lengths = (items_len, feed_len, ask_len, len64)
+
+-- of version 2
+pub ruleset later_request_lengths = (page_len, whole_len, await_len, len64)
+
+-- of the bodies of replies of version 2
+pub ruleset later_reply_lengths = (latest_len, part_len, last_part_len, held_len, fed_len, ready_len, refused_len, len64)

@@ -6,3 +6,4 @@ pub mod RepliesReadAgain
 pub mod Lengths
 pub mod EncodedMessages
 pub mod PlainItems
+pub mod DoneByKind

@@ -33,7 +33,7 @@ pub data RequestValue : Type 0 where
 abbrev pub request_seen : LaterRequest → RequestValue
 request_seen asked.Streams = Streams
 request_seen (asked.AskLatest query) = AskLatest query
-request_seen (asked.Page t table low high most) = Page t table low high most
+request_seen (asked.Page of) = Page of.time of.table of.low of.high of.most
 request_seen (asked.Whole base most_bytes) = Whole base most_bytes
 request_seen asked.More = More
 request_seen (asked.AddPart facts) = AddPart facts.items

@@ -92,7 +92,7 @@ pub(crate) fn items_len(items: &[Item]) -> u64
 }
 
 /// Adds the items behind their count.
-#[tactic(auto, using(std::proofs::Common::append_assoc, hk_frames::proofs::Prefix::kept_all, hk_frames::proofs::Prefix::kept_before, hk_frames::proofs::Prefix::kept_both))]
+#[tactic(auto, using(hk_frames::proofs::Put::all))]
 pub(crate) fn put_items(out: &mut Vec<u8>, items: &[Item]) -> Result<(), AllocError>
     requires { length items.now ≤ 65536 }
     ensures ok { OnOk result (out.new.items ≡ out.old.items ++ spec.items_text items.now) }

@@ -3,18 +3,23 @@
 ghost use Rattle.hk_frames.specs.Fields.{GivesOrRunsOut};
 ghost use Rattle.hk_messages.specs.LaterReplies as spec;
 
+use hk_answers::Metric;
+use hk_answers::answer::read_answer;
+use hk_answers::metrics::{read_metrics, read_tables};
+use hk_answers::numbers::{read_front, read_ops, read_positive, read_time};
+use hk_answers::refusal::read_later_refusal;
+use hk_answers::told::{read_page, read_streams_told};
+use hk_fragment_bytes::FragmentHead;
+use hk_fragment_bytes::fragment_head::read_head;
 use hk_frames::{Cursor, ReadError};
 use hk_log::Version;
+use hk_message_head::reply_kinds::{
+    ADDED, FED, HELD, LAST_PART, LATER_DONE, LATER_REFUSED, LATEST, PAGE, PART, READY, STATS,
+    STREAMS, TABLES,
+};
 use hk_model::{Answer, Front, Page, StreamsTold};
 use hk_types::{FormFault, Refusal, Table, Time, VersionKey};
-use hk_values::answer::read_answer;
-use hk_values::fragment_head::read_head;
-use hk_values::metrics::{read_metrics, read_tables};
-use hk_values::numbers::{read_front, read_ops, read_positive, read_time};
 use hk_values::part::read_part;
-use hk_values::refusal::read_later_refusal;
-use hk_values::told::{read_page, read_streams_told};
-use hk_values::{FragmentHead, Metric};
 use std::alloc::Global;
 
 /// What a node replies in version 2.
@@ -70,33 +75,6 @@ pub enum LaterReply {
     Refused(Refusal),
 }
 
-/// The kind bytes.
-pub(crate) const DONE: u8 = 64;
-
-pub(crate) const STREAMS: u8 = 65;
-
-pub(crate) const LATEST: u8 = 66;
-
-pub(crate) const PAGE: u8 = 67;
-
-pub(crate) const PART: u8 = 68;
-
-pub(crate) const LAST_PART: u8 = 69;
-
-pub(crate) const ADDED: u8 = 70;
-
-pub(crate) const HELD: u8 = 71;
-
-pub(crate) const REFUSED: u8 = 72;
-
-pub(crate) const FED: u8 = 73;
-
-pub(crate) const READY: u8 = 74;
-
-pub(crate) const STATS: u8 = 75;
-
-pub(crate) const TABLES: u8 = 76;
-
 /// Reads the body of a kind of chunks, of pins, of refusals, or of what was fed.
 #[tactic(auto, unfolding(crate::specs::LaterReplies::part_reply_of))]
 fn read_part_reply(alloc: Global, cursor: &mut Cursor, kind: u8) -> Result<LaterReply, ReadError>
@@ -122,7 +100,7 @@ fn read_part_reply(alloc: Global, cursor: &mut Cursor, kind: u8) -> Result<Later
             let t = read_time(cursor)?;
             Ok(LaterReply::Held { number, t })
         }
-        REFUSED => {
+        LATER_REFUSED => {
             let why = read_later_refusal(cursor)?;
             Ok(LaterReply::Refused(why))
         }
@@ -145,7 +123,7 @@ pub(crate) fn read_later(
     ensures { GivesOrRunsOut (λ x. (spec.reply_seen x, cursor.new)) result (spec.reply_of kind cursor.old) }
 {
     match kind {
-        DONE => {
+        LATER_DONE => {
             let ops = read_ops(cursor)?;
             Ok(LaterReply::Done { ops })
         }

@@ -3,23 +3,24 @@
 ghost use Rattle.std.specs.Prelude.{◌≡◌, ◌≤◌, ◌^◌, ◌++◌, true, length, take, OnOk, OnErr};
 ghost use Rattle.hk_messages.specs.LaterReplies as spec;
 
-use crate::later_reply::{
-    ADDED, DONE, FED, HELD, LAST_PART, LATEST, LaterReply, PAGE, PART, READY, REFUSED, STATS,
-    STREAMS, TABLES,
-};
-use hk_frames::put_u64;
-use hk_values::answer::{answer_len, keeps_answer_rules, put_answer};
-use hk_values::field_len::{number_len, time_len};
-use hk_values::fragment_encoding::put_facts;
-use hk_values::metrics::{
+use crate::later_reply::LaterReply;
+use hk_answers::answer::{answer_len, keeps_answer_rules, put_answer};
+use hk_answers::field_len::{number_len, time_len};
+use hk_answers::metrics::{
     keeps_metrics_rules, keeps_tables_rules, metrics_len, put_metrics, put_tables, tables_len,
 };
-use hk_values::numbers::is_ops;
-use hk_values::part::{keeps_part_rules, part_len};
-use hk_values::refusal::{is_told, put_refusal, refusal_len};
-use hk_values::told::{
+use hk_answers::numbers::is_ops;
+use hk_answers::refusal::{is_told, put_refusal, refusal_len};
+use hk_answers::told::{
     keeps_page_rules, keeps_streams_rules, page_len, put_page, put_streams_told, streams_told_len,
 };
+use hk_fragment_bytes::fragment_encoding::put_facts;
+use hk_frames::put_u64;
+use hk_message_head::reply_kinds::{
+    ADDED, FED, HELD, LAST_PART, LATER_DONE, LATER_REFUSED, LATEST, PAGE, PART, READY, STATS,
+    STREAMS, TABLES,
+};
+use hk_values::part::{keeps_part_rules, part_len};
 use std::alloc::AllocError;
 
 /// The kind byte.
@@ -27,7 +28,7 @@ pub(crate) fn later_kind(reply: &LaterReply) -> u8
     ensures { result ≡ spec.reply_kind (spec.reply_seen reply.now) }
 {
     match reply {
-        LaterReply::Done { .. } => DONE,
+        LaterReply::Done { .. } => LATER_DONE,
         LaterReply::Streams(_) => STREAMS,
         LaterReply::Latest { .. } => LATEST,
         LaterReply::Page(_) => PAGE,
@@ -35,7 +36,7 @@ pub(crate) fn later_kind(reply: &LaterReply) -> u8
         LaterReply::LastPart { .. } => LAST_PART,
         LaterReply::Added { .. } => ADDED,
         LaterReply::Held { .. } => HELD,
-        LaterReply::Refused(_) => REFUSED,
+        LaterReply::Refused(_) => LATER_REFUSED,
         LaterReply::Fed { .. } => FED,
         LaterReply::Ready { .. } => READY,
         LaterReply::Stats(_) => STATS,
@@ -65,7 +66,7 @@ pub(crate) fn later_keeps_rules(reply: &LaterReply) -> bool
 }
 
 /// How many bytes the body of a reply that keeps its rules has.
-#[tactic(auto, using(crate::proofs::Lengths::latest_len, crate::proofs::Lengths::part_len, crate::proofs::Lengths::last_part_len, crate::proofs::Lengths::held_len, crate::proofs::Lengths::fed_len, crate::proofs::Lengths::ready_len, crate::proofs::Lengths::refused_len, hk_codec::proofs::Lengths::len64))]
+#[tactic(auto, using(crate::proofs::Lengths::later_reply_lengths))]
 pub(crate) fn later_body_len(reply: &LaterReply) -> u64
     requires { spec.keeps_rules (spec.reply_seen reply.now) ≡ true }
     ensures len { result ≡ length (spec.reply_body (spec.reply_seen reply.now)) }
@@ -90,7 +91,7 @@ pub(crate) fn later_body_len(reply: &LaterReply) -> u64
 }
 
 /// Adds the body of a reply that keeps its rules.
-#[tactic(auto, using(std::proofs::Common::append_assoc, hk_frames::proofs::Prefix::kept_all, hk_frames::proofs::Prefix::kept_before, hk_frames::proofs::Prefix::kept_both))]
+#[tactic(auto, using(hk_frames::proofs::Put::all))]
 pub fn put_later(out: &mut Vec<u8>, reply: &LaterReply) -> Result<(), AllocError>
     requires { spec.keeps_rules (spec.reply_seen reply.now) ≡ true }
     ensures ok { OnOk result (out.new.items ≡ out.old.items ++ spec.reply_body (spec.reply_seen reply.now)) }

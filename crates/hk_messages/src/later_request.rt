@@ -3,16 +3,20 @@
 ghost use Rattle.hk_frames.specs.Fields.{GivesValue, GivesOrRunsOut};
 ghost use Rattle.hk_messages.specs.LaterRequests as spec;
 
+use hk_answers::numbers::{read_positive, read_time};
+use hk_answers::query::read_query;
+use hk_fragment_bytes::FragmentHead;
+use hk_fragment_bytes::fragment_head::{read_head, read_whole_head};
 use hk_frames::{Cursor, ReadError};
 use hk_log::Version;
 use hk_message_head::limits::{read_most, read_wait};
-use hk_model::Query;
+use hk_message_head::request_kinds::{
+    ADD_PART, ASK_LATEST, AWAIT, HOLD, JOIN_PARTS, MERGE_PARTS, MORE, PAGE, RELEASE, STATS,
+    STREAMS, TABLES, WHOLE,
+};
+use hk_model::{PageQuery, Query};
 use hk_types::{FormFault, Key, Table, Time, VersionKey};
-use hk_values::FragmentHead;
-use hk_values::fragment_head::{read_head, read_whole_head};
-use hk_values::numbers::{read_positive, read_time};
 use hk_values::part::read_part;
-use hk_values::query::read_query;
 use std::alloc::Global;
 
 /// What a node is asked in version 2.
@@ -21,23 +25,12 @@ pub enum LaterRequest {
     /// How far it is, and each of its streams.
     Streams,
     /// The resolved time, and the answer to a query at it.
-    AskLatest {
-        query: Query,
-    },
-    /// The rows of a range at a time, from the low key on, and as many as `most` of them, 1 at least.
-    Page {
-        t: Time,
-        table: Table,
-        low: Key,
-        high: Key,
-        most: u32,
-    },
+    AskLatest { query: Query },
+    /// A page of rows, of which 1 at least is wanted.
+    Page(PageQuery),
     /// What it has applied since a time, or its full snapshot since 0, in chunks whose facts have at most so many
     /// bytes, and one fact at least: the first of them.
-    Whole {
-        base: Time,
-        most_bytes: u32,
-    },
+    Whole { base: Time, most_bytes: u32 },
     /// The next chunk of that.
     More,
     /// To keep these facts until the other chunks and the head are there.
@@ -47,68 +40,34 @@ pub enum LaterRequest {
     /// To join the full snapshot that they make: the base of the head is 0.
     MergeParts(FragmentHead),
     /// To keep a time readable.
-    Hold {
-        t: Time,
-    },
+    Hold { t: Time },
     /// To release the pin of this number, which is not 0.
-    Release {
-        number: u64,
-    },
+    Release { number: u64 },
     /// To reply once a time is readable, or after so many milliseconds, at most 600,000.
-    Await {
-        t: Time,
-        milliseconds: u32,
-    },
+    Await { t: Time, milliseconds: u32 },
     /// Numbers of what the node holds and did.
     Stats,
     /// The tables of which it holds anything.
     Tables,
 }
 
-/// The kind bytes.
-pub(crate) const STREAMS: u8 = 48;
-
-pub(crate) const ASK_LATEST: u8 = 49;
-
-pub(crate) const PAGE: u8 = 50;
-
-pub(crate) const WHOLE: u8 = 51;
-
-pub(crate) const MORE: u8 = 52;
-
-pub(crate) const ADD_PART: u8 = 53;
-
-pub(crate) const JOIN_PARTS: u8 = 54;
-
-pub(crate) const MERGE_PARTS: u8 = 55;
-
-pub(crate) const HOLD: u8 = 56;
-
-pub(crate) const RELEASE: u8 = 57;
-
-pub(crate) const AWAIT: u8 = 59;
-
-pub(crate) const STATS: u8 = 60;
-
-pub(crate) const TABLES: u8 = 61;
-
 /// Reads what a page is asked of.
 #[tactic(auto, unfolding(crate::specs::LaterRequests::page_at))]
 fn read_page(cursor: &mut Cursor) -> Result<LaterRequest, FormFault>
     ensures { GivesValue (λ x. (spec.request_seen x, cursor.new)) result (spec.page_at cursor.old) }
 {
-    let t = read_time(cursor)?;
+    let time = read_time(cursor)?;
     let table = Table::new(cursor.u16()?);
     let low = Key::new(cursor.u64()?);
     let high = Key::new(cursor.u64()?);
     let most = read_most(cursor)?;
-    Ok(LaterRequest::Page {
-        t,
+    Ok(LaterRequest::Page(PageQuery {
+        time,
         table,
         low,
         high,
         most,
-    })
+    }))
 }
 
 /// Reads the body of a kind that puts chunks together or is about pins.

@@ -3,16 +3,17 @@
 ghost use Rattle.std.specs.Prelude.{◌≡◌, ◌<◌, ◌≤◌, ◌^◌, ◌++◌, true, length, take, OnOk, OnErr};
 ghost use Rattle.hk_messages.specs.LaterRequests as spec;
 
-use crate::later_request::{
-    ADD_PART, ASK_LATEST, AWAIT, HOLD, JOIN_PARTS, LaterRequest, MERGE_PARTS, MORE, PAGE, RELEASE,
-    STATS, STREAMS, TABLES, WHOLE,
-};
+use crate::later_request::LaterRequest;
+use hk_answers::field_len::{key_len, number_len, table_len, time_len};
+use hk_answers::query::{put_query, query_len};
+use hk_fragment_bytes::fragment_encoding::put_facts;
 use hk_frames::{put_u16, put_u32, put_u64};
 use hk_message_head::limits::MOST_MILLISECONDS;
-use hk_values::field_len::{key_len, number_len, table_len, time_len};
-use hk_values::fragment_encoding::put_facts;
+use hk_message_head::request_kinds::{
+    ADD_PART, ASK_LATEST, AWAIT, HOLD, JOIN_PARTS, MERGE_PARTS, MORE, PAGE, RELEASE, STATS,
+    STREAMS, TABLES, WHOLE,
+};
 use hk_values::part::{keeps_part_rules, part_len};
-use hk_values::query::{put_query, query_len};
 use std::alloc::AllocError;
 
 /// The kind byte.
@@ -22,7 +23,7 @@ pub fn later_kind(request: &LaterRequest) -> u8
     match request {
         LaterRequest::Streams => STREAMS,
         LaterRequest::AskLatest { .. } => ASK_LATEST,
-        LaterRequest::Page { .. } => PAGE,
+        LaterRequest::Page(_) => PAGE,
         LaterRequest::Whole { .. } => WHOLE,
         LaterRequest::More => MORE,
         LaterRequest::AddPart(_) => ADD_PART,
@@ -41,7 +42,7 @@ pub(crate) fn later_keeps_rules(request: &LaterRequest) -> bool
     ensures { result ≡ spec.keeps_rules (spec.request_seen request.now) }
 {
     match request {
-        LaterRequest::Page { most, .. } => *most != 0,
+        LaterRequest::Page(of) => of.most != 0,
         LaterRequest::AddPart(facts) => keeps_part_rules(facts),
         LaterRequest::JoinParts(head) => head.is_counted(),
         LaterRequest::MergeParts(head) => head.base().number() == 0 && head.is_counted(),
@@ -55,12 +56,12 @@ fn count_len(count: u32) -> u64
     ensures len { result ≡ 4 }
     ensures fits { count < 2 ^ 32 }
 {
-    let _known = count;
+    let _in_range = count;
     4
 }
 
 /// How many bytes the body of a request that keeps its rules has.
-#[tactic(auto, using(crate::proofs::Lengths::page_len, crate::proofs::Lengths::whole_len, crate::proofs::Lengths::await_len, hk_codec::proofs::Lengths::len64))]
+#[tactic(auto, using(crate::proofs::Lengths::later_request_lengths))]
 pub(crate) fn later_body_len(request: &LaterRequest) -> u64
     requires { spec.keeps_rules (spec.request_seen request.now) ≡ true }
     ensures len { result ≡ length (spec.request_body (spec.request_seen request.now)) }
@@ -71,15 +72,9 @@ pub(crate) fn later_body_len(request: &LaterRequest) -> u64
         LaterRequest::Streams | LaterRequest::More | LaterRequest::Stats | LaterRequest::Tables =>
             0,
         LaterRequest::AskLatest { query } => query_len(query),
-        LaterRequest::Page {
-            t,
-            table,
-            low,
-            high,
-            most,
-        } => {
-            let keys = key_len(*low) + key_len(*high);
-            time_len(*t) + table_len(*table) + keys + count_len(*most)
+        LaterRequest::Page(of) => {
+            let keys = key_len(of.low) + key_len(of.high);
+            time_len(of.time) + table_len(of.table) + keys + count_len(of.most)
         }
         LaterRequest::Whole { base, most_bytes } => time_len(*base) + count_len(*most_bytes),
         LaterRequest::AddPart(facts) => part_len(facts),
@@ -91,7 +86,7 @@ pub(crate) fn later_body_len(request: &LaterRequest) -> u64
 }
 
 /// Adds the body of a request that keeps its rules.
-#[tactic(auto, using(std::proofs::Common::append_assoc, hk_frames::proofs::Prefix::kept_all, hk_frames::proofs::Prefix::kept_before, hk_frames::proofs::Prefix::kept_both))]
+#[tactic(auto, using(hk_frames::proofs::Put::all))]
 pub(crate) fn put_later(out: &mut Vec<u8>, request: &LaterRequest) -> Result<(), AllocError>
     requires { spec.keeps_rules (spec.request_seen request.now) ≡ true }
     ensures ok { OnOk result (out.new.items ≡ out.old.items ++ spec.request_body (spec.request_seen request.now)) }
@@ -101,18 +96,12 @@ pub(crate) fn put_later(out: &mut Vec<u8>, request: &LaterRequest) -> Result<(),
         LaterRequest::Streams | LaterRequest::More | LaterRequest::Stats | LaterRequest::Tables =>
             Ok(()),
         LaterRequest::AskLatest { query } => put_query(out, query),
-        LaterRequest::Page {
-            t,
-            table,
-            low,
-            high,
-            most,
-        } => {
-            put_u64(out, t.number())?;
-            put_u16(out, table.number())?;
-            put_u64(out, low.number())?;
-            put_u64(out, high.number())?;
-            put_u32(out, *most)
+        LaterRequest::Page(of) => {
+            put_u64(out, of.time.number())?;
+            put_u16(out, of.table.number())?;
+            put_u64(out, of.low.number())?;
+            put_u64(out, of.high.number())?;
+            put_u32(out, of.most)
         }
         LaterRequest::Whole { base, most_bytes } => {
             put_u64(out, base.number())?;

@@ -4,15 +4,16 @@ ghost use Rattle.hk_frames.specs.Fields.{GivesOrRunsOut};
 ghost use Rattle.hk_messages.specs.Replies as spec;
 
 use crate::later_reply::{LaterReply, read_later};
+use hk_answers::answer::read_answer;
+use hk_answers::numbers::{read_front, read_ops};
+use hk_answers::refusal::read_refusal;
 use hk_fragment::Fragment;
 use hk_frames::{Cursor, Format, FrameFeeder, ReadError};
 use hk_message_head::head::{read_end, read_head};
+use hk_message_head::reply_kinds::{ANSWER, DONE, FRAGMENT, FRONT, REFUSED};
 use hk_model::{Answer, Front};
 use hk_types::Refusal;
-use hk_values::answer::read_answer;
 use hk_values::fragment_reading::read_fragment;
-use hk_values::numbers::{read_front, read_ops};
-use hk_values::refusal::read_refusal;
 use std::alloc::Global;
 
 /// What a replica replies.
@@ -34,17 +35,6 @@ pub enum Reply {
 
 /// The latest version that is read.
 const LATEST: u8 = 2;
-
-/// The kind bytes.
-pub(crate) const DONE: u8 = 32;
-
-pub(crate) const FRONT: u8 = 33;
-
-pub(crate) const FRAGMENT: u8 = 34;
-
-pub(crate) const ANSWER: u8 = 35;
-
-pub(crate) const REFUSED: u8 = 36;
 
 /// Reads the body of a kind.
 #[tactic(auto, unfolding(crate::specs::Replies::reply_of))]

@@ -4,13 +4,14 @@ ghost use Rattle.std.specs.Prelude.{◌≡◌, ◌≤◌, ◌^◌, ◌++◌, tru
 ghost use Rattle.hk_messages.specs.Replies as replies;
 
 use crate::later_reply_encoding::{later_body_len, later_keeps_rules, later_kind, put_later};
-use crate::reply::{ANSWER, DONE, FRAGMENT, FRONT, REFUSED, Reply};
+use crate::reply::Reply;
+use hk_answers::answer::{answer_len, keeps_answer_rules, put_answer};
+use hk_answers::field_len::{number_len, time_len};
+use hk_answers::numbers::is_ops;
+use hk_answers::refusal::{is_sent, put_refusal, refusal_len};
+use hk_fragment_bytes::fragment_encoding::{fragment_len, is_counted, put_fragment};
 use hk_frames::put_u64;
-use hk_values::answer::{answer_len, keeps_answer_rules, put_answer};
-use hk_values::field_len::{number_len, time_len};
-use hk_values::fragment_encoding::{fragment_len, is_counted, put_fragment};
-use hk_values::numbers::is_ops;
-use hk_values::refusal::{is_sent, put_refusal, refusal_len};
+use hk_message_head::reply_kinds::{ANSWER, DONE, FRAGMENT, FRONT, REFUSED};
 use std::alloc::AllocError;
 
 /// The kind byte.
@@ -60,7 +61,7 @@ pub fn body_len(reply: &Reply) -> u64
 }
 
 /// Adds the body of a reply that keeps its rules.
-#[tactic(auto, using(std::proofs::Common::append_assoc, hk_frames::proofs::Prefix::kept_all, hk_frames::proofs::Prefix::kept_before, hk_frames::proofs::Prefix::kept_both))]
+#[tactic(auto, using(hk_frames::proofs::Put::all))]
 pub fn put_body(out: &mut Vec<u8>, reply: &Reply) -> Result<(), AllocError>
     requires { replies.keeps_rules (replies.reply_seen reply.now) ≡ true }
     ensures ok { OnOk result (out.new.items

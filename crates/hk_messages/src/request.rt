@@ -5,15 +5,18 @@ ghost use Rattle.hk_messages.specs.Requests as spec;
 
 use crate::items::read_items;
 use crate::later_request::{LaterRequest, read_later};
+use hk_answers::numbers::read_time;
+use hk_answers::query::read_query;
 use hk_fragment::Fragment;
 use hk_frames::{Cursor, Format, FrameFeeder, ReadError};
 use hk_log::Item;
 use hk_message_head::head::{read_end, read_head};
+use hk_message_head::request_kinds::{
+    ASK, DELTA, FEED, FRONT, FULL, ITEMS, JOIN_THIS, MERGE_THIS, PRUNE,
+};
 use hk_model::Query;
 use hk_types::Time;
 use hk_values::fragment_reading::{read_fragment, read_whole};
-use hk_values::numbers::read_time;
-use hk_values::query::read_query;
 use std::alloc::Global;
 
 /// What a replica is asked.
@@ -40,33 +43,6 @@ pub enum Request {
     /// What else is asked in version 2.
     Later(LaterRequest),
 }
-
-/// The kind byte of `Items`.
-pub const ITEMS: u8 = 16;
-
-/// The kind byte of `Front`.
-pub const FRONT: u8 = 17;
-
-/// The kind byte of `Delta`.
-pub const DELTA: u8 = 18;
-
-/// The kind byte of `Full`.
-pub const FULL: u8 = 19;
-
-/// The kind byte of `Ask`.
-pub const ASK: u8 = 20;
-
-/// The kind byte of `JoinThis`.
-pub const JOIN_THIS: u8 = 21;
-
-/// The kind byte of `MergeThis`.
-pub const MERGE_THIS: u8 = 22;
-
-/// The kind byte of `Prune`.
-pub const PRUNE: u8 = 23;
-
-/// The kind byte of `Feed`.
-pub const FEED: u8 = 58;
 
 /// Reads the body of a kind.
 #[tactic(auto, unfolding(crate::specs::Requests::request_of))]

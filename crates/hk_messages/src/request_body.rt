@@ -6,10 +6,10 @@ ghost use Rattle.hk_messages.specs.Requests as requests;
 use crate::items::{MOST_ITEMS, items_len, put_items};
 use crate::later_request_encoding::{later_body_len, later_keeps_rules, put_later};
 use crate::request::Request;
+use hk_answers::field_len::time_len;
+use hk_answers::query::{put_query, query_len};
+use hk_fragment_bytes::fragment_encoding::{fragment_len, is_counted, put_fragment};
 use hk_frames::put_u64;
-use hk_values::field_len::time_len;
-use hk_values::fragment_encoding::{fragment_len, is_counted, put_fragment};
-use hk_values::query::{put_query, query_len};
 use std::alloc::AllocError;
 
 /// Whether a request keeps the rules of its kind.
@@ -26,7 +26,7 @@ pub fn keeps_rules(request: &Request) -> bool
 }
 
 /// How many bytes the body of a request that keeps its rules has.
-#[tactic(auto, using(crate::proofs::Lengths::items_len, crate::proofs::Lengths::feed_len, crate::proofs::Lengths::ask_len, hk_codec::proofs::Lengths::len64))]
+#[tactic(auto, using(crate::proofs::Lengths::request_lengths))]
 pub fn body_len(request: &Request) -> u64
     requires { requests.keeps_rules (requests.request_seen request.now) ≡ true }
     ensures len { result ≡ length (requests.request_body (requests.as_written request.now)) }
@@ -45,7 +45,7 @@ pub fn body_len(request: &Request) -> u64
 }
 
 /// Adds the body of a request that keeps its rules.
-#[tactic(auto, using(std::proofs::Common::append_assoc, hk_frames::proofs::Prefix::kept_all, hk_frames::proofs::Prefix::kept_before, hk_frames::proofs::Prefix::kept_both))]
+#[tactic(auto, using(hk_frames::proofs::Put::all))]
 pub fn put_body(out: &mut Vec<u8>, request: &Request) -> Result<(), AllocError>
     requires { requests.keeps_rules (requests.request_seen request.now) ≡ true }
     ensures ok { OnOk result (out.new.items

@@ -2,40 +2,16 @@
 
 ghost use Rattle.std.specs.Prelude.{◌≡◌};
 ghost use Rattle.hk_doors.specs.declared.passes.Passes.TheVariants.{All, Feeds, Readings};
-ghost use Rattle.hk_net.specs.Doors.{way_passes};
+ghost use Rattle.hk_seats.specs.Ways.{way_passes};
 
 use crate::sockets::Listener;
-use hk_doors::Passes;
-use hk_link::PartsBudget;
+use hk_budgets::PartsBudget;
 use hk_node::{Node, NodeName};
+use hk_seats::Way;
 use std::marker::Model;
 use std::net::TcpListener;
 use std::os::unix::net::UnixListener;
 use std::sync::Wait;
-
-/// What connections of a door may do.
-#[derive(Drop)]
-pub(crate) enum Way<'a, J: NodeName, N: Wait + Drop> {
-    /// Everything.
-    Open(&'a Node<J, N>),
-    /// Send items, and ask.
-    Feeding(&'a Node<J, N>),
-    /// Ask.
-    Reading,
-}
-
-impl<J: NodeName, N: Wait + Drop> Way<'_, J, N> {
-    /// Which requests it lets through.
-    pub(crate) fn passes(&self) -> Passes
-        ensures { result ≡ way_passes self.now }
-    {
-        match self {
-            Way::Open(_) => Passes::All,
-            Way::Feeding(_) => Passes::Feeds,
-            Way::Reading => Passes::Readings,
-        }
-    }
-}
 
 /// Where connections come in, what they may do, and how many of them are served at once. Contracts see it as which requests it lets through.
 #[derive(Drop)]
@@ -50,7 +26,7 @@ pub struct Door<'a, J: NodeName, N: Wait + Drop> {
 
 impl<'a, J: NodeName, N: Wait + Drop> Model for Door<'a, J, N> {
     ghost use Rattle.hk_doors.specs.declared.passes.Passes.{Passes};
-    ghost use Rattle.hk_net.specs.Doors.{way_passes};
+    ghost use Rattle.hk_seats.specs.Ways.{way_passes};
 
     ghost Value = { Passes };
 

@@ -9,11 +9,9 @@ mod accepting;
 mod arrivals;
 mod doors;
 mod link;
-mod link_session;
 mod links;
 mod places;
 mod reactor;
-mod rest;
 mod serving;
 mod shop;
 mod sockets;
@@ -23,12 +21,10 @@ mod turns;
 mod waiting;
 mod watching;
 mod worker;
-mod writing;
 
 pub use doors::{Door, Limits};
 pub use hk_host::{
-    FeedHost, LinkEvent, NetFault, NodeHost, SeatHost, Speech, Subject, serve_links, serve_parts,
-    serve_plain,
+    LinkEvent, NetFault, NodeHost, Speech, Subject, serve_links, serve_parts, serve_plain,
 };
 pub use hk_link::{LinkState, Meters, NodeSide, PartsBudget, PartsHost, given_law};
 pub use staying::serve_forever;

@@ -1,16 +1,15 @@
 //! A connection of a worker: its socket, its session, and what waits between them.
 
 use crate::doors::Limits;
-use crate::link_session::LinkSession;
-use crate::rest::Rest;
 use crate::sockets::Socket;
 use crate::speech::speech_of;
 use crate::waiting::Awaited;
-use crate::writing::{MOST_HELD, Unwritten};
-use hk_doors::FrameWatch;
+use hk_exchange::Exchange;
 use hk_host::Speech;
-use hk_link::{LinkState, Meters};
-use hk_session::Ended;
+use hk_link_state::LinkState;
+use hk_meters::Meters;
+use hk_pipes::MOST_HELD;
+use hk_session_parts::Ended;
 use std::alloc::Global;
 
 /// For how many milliseconds what a peer still sends is read and dropped once its session has ended, so that it can read the last reply:
@@ -21,9 +20,6 @@ const MOST_SILENT: u64 = 250;
 
 /// From how many milliseconds on a frame that isn't complete has to have brought as many bytes as its time asks for.
 const RATE_AFTER: u64 = 30_000;
-
-/// How many of a connection's first bytes show what they are of.
-const FIRST_BYTES: usize = 4;
 
 /// How many bytes are counted together where room is reserved for them.
 const COUNTED_BYTES: u64 = 4_096;
@@ -44,28 +40,23 @@ pub(crate) struct Readiness {
 /// What is between a connection's socket and its session, and how far that is.
 #[derive(Drop)]
 pub(crate) struct Pipe<'d> {
-    pub(crate) alloc: Global,
     /// Where it is counted what the connection does.
     pub(crate) meters: &'d Meters<'d>,
     pub(crate) socket: Socket,
-    pub(crate) watch: FrameWatch,
+    pub(crate) exchange: Exchange,
     /// Whether its first four bytes are still to come, and what they are of, where they are of no message.
     is_fresh: bool,
     pub(crate) speech: Option<Speech>,
-    /// What was read and isn't handed to its session.
-    pub(crate) rest: Rest,
-    /// Whether that begins with a request for a worker that gives long answers.
+    /// Whether what waits begins with a request for a worker that gives long answers.
     pub(crate) rest_moves: bool,
     /// Whether its session keeps a request for a worker that gives long answers.
     pub(crate) is_far: bool,
-    pub(crate) unwritten: Unwritten,
     /// What it waits for.
     pub(crate) awaited: Option<Awaited>,
     /// When a byte came or went last, in milliseconds of the worker's clock.
     pub(crate) since: u64,
     /// When the frame began that isn't complete, or its connection was read again last.
     pub(crate) frame_since: u64,
-    pub(crate) ended: Option<Ended>,
     /// A read may bring something.
     pub(crate) is_readable: bool,
     /// It is read until nothing is there: a read that doesn't fill its buffer may not have taken all.
@@ -90,7 +81,6 @@ pub(crate) struct Link<'d> {
     door: u32,
     place: u32,
     pub(crate) pipe: Pipe<'d>,
-    pub(crate) session: LinkSession,
     /// What it keeps beside its worker's seat, and how many bytes of that are reserved for its pipe.
     pub(crate) kept: Option<LinkState<'d>>,
     pub(crate) reserved: u64,
@@ -102,20 +92,16 @@ impl<'d> Pipe<'d> {
     /// That of a connection that was just accepted.
     pub(crate) fn new(alloc: Global, socket: Socket, now: u64, meters: &'d Meters<'d>) -> Pipe<'d> {
         Pipe {
-            alloc,
             meters,
             socket,
-            watch: FrameWatch::new(),
+            exchange: Exchange::new(alloc),
             is_fresh: true,
             speech: None,
-            rest: Rest::new(alloc),
             rest_moves: false,
             is_far: false,
-            unwritten: Unwritten::new(alloc),
             awaited: None,
             since: now,
             frame_since: now,
-            ended: None,
             is_readable: true,
             is_special: false,
             is_closed: false,
@@ -134,40 +120,43 @@ impl<'d> Pipe<'d> {
         self.is_special = self.is_special || told.is_special;
         self.is_closed = self.is_closed || told.is_closed;
         if told.is_writable {
-            self.unwritten.note_writable();
+            self.exchange.note_writable();
         }
         if told.is_broken && self.awaited.is_some() {
             self.cut(Ended::ReadFault);
         }
         // The system may say no more than that a socket takes bytes, of a connection that has none for it.
         let is_read = told.is_readable && self.awaited.is_none();
-        self.is_cut || is_read || !self.unwritten.is_empty()
+        self.is_cut || is_read || self.has_unwritten()
     }
 
     /// Notes what its first bytes are of, once four are there.
-    pub(crate) fn note_first(&mut self, bytes: &[u8]) {
-        if self.is_fresh && bytes.len() >= FIRST_BYTES {
+    pub(crate) fn note_first(&mut self, first: Option<[u8; 4]>) {
+        if let (true, Some(first)) = (self.is_fresh, first) {
             self.is_fresh = false;
-            self.speech = speech_of(bytes);
+            self.speech = speech_of(&first);
         }
     }
 
-    /// How many bytes stand before its session: what came of a frame that isn't complete, and what waits.
-    pub(crate) fn held(&self) -> u64 {
-        self.watch.held().saturating_add(self.rest.len() as u64)
+    /// Whether replies stand that the socket didn't take.
+    pub(crate) fn has_unwritten(&self) -> bool {
+        self.exchange.unwritten() > 0
+    }
+
+    /// Whether its session has ended.
+    pub(crate) fn has_ended(&self) -> bool {
+        self.exchange.ended().is_some()
     }
 
     /// Ends it as it is. A session that had ended keeps how it ended.
     pub(crate) fn cut(&mut self, ended: Ended) {
         self.is_cut = true;
-        if self.ended.is_none() {
-            self.ended = Some(ended);
-        }
+        self.exchange.cut(ended);
     }
 
     /// How it ended.
     pub(crate) fn end(&self) -> Ended {
-        match self.ended {
+        match self.exchange.ended() {
             Some(ended) => ended,
             None => Ended::ReadFault,
         }
@@ -177,7 +166,7 @@ impl<'d> Pipe<'d> {
     fn is_too_slow(&self, now: u64, limits: &Limits) -> bool {
         let took = now.saturating_sub(self.frame_since);
         let wanted = (took / 1_000).saturating_mul(limits.read_rate);
-        took >= RATE_AFTER && self.watch.held() < wanted
+        took >= RATE_AFTER && self.exchange.held_of_frame() < wanted
     }
 
     /// Whether no byte came or went for so many seconds.
@@ -193,11 +182,11 @@ impl<'d> Pipe<'d> {
             let is_over = silent >= MOST_SILENT || all >= MOST_LINGERING;
             return if is_over { Some(self.end()) } else { None };
         }
-        let (seconds, ended) = if !self.unwritten.is_empty() {
+        let (seconds, ended) = if self.has_unwritten() {
             (limits.write_seconds, Ended::WriteFault)
         } else if self.awaited.is_some() {
             return None;
-        } else if self.watch.is_within() {
+        } else if self.exchange.is_within() {
             if self.is_too_slow(now, limits) {
                 return Some(Ended::ReadFault);
             }
@@ -216,27 +205,25 @@ impl<'d> Pipe<'d> {
     fn is_timed(&self, limits: &Limits) -> bool {
         self.is_shut
             || limits.idle_seconds > 0
-            || !self.unwritten.is_empty() && limits.write_seconds > 0
-            || self.watch.is_within() && (limits.read_seconds > 0 || limits.read_rate > 0)
+            || self.has_unwritten() && limits.write_seconds > 0
+            || self.exchange.is_within() && (limits.read_seconds > 0 || limits.read_rate > 0)
     }
 }
 
 impl<'d> Link<'d> {
-    /// A connection that was just accepted, answered in both versions or in version 1. It keeps nothing yet.
+    /// A connection that was just accepted. It keeps nothing yet.
     pub(crate) fn new(
         alloc: Global,
         socket: Socket,
         door: usize,
         place: usize,
         now: u64,
-        in_both: bool,
         meters: &'d Meters<'d>,
     ) -> Link<'d> {
         Link {
             door: u32::try_from(door).unwrap_or(u32::MAX),
             place: u32::try_from(place).unwrap_or(u32::MAX),
             pipe: Pipe::new(alloc, socket, now, meters),
-            session: LinkSession::new(alloc, in_both),
             kept: None,
             reserved: 0,
             has_let_go: false,
@@ -280,16 +267,11 @@ impl<'d> Link<'d> {
         }
     }
 
-    /// How many bytes of its replies aren't written: those that stand, and those of a reply that are still to be appended.
-    fn unwritten_bytes(&self) -> u64 {
-        let standing = self.pipe.unwritten.len() as u64;
-        standing.saturating_add(self.session.standing())
-    }
-
     /// Reserves room of the budget for what is between its socket and its session: what came of a frame that isn't complete, what waits
     /// behind an Await, for others or for another worker, and replies that aren't written. A connection for which there is none ends. Fewer bytes than 4,096 aren't counted.
     pub(crate) fn reserve(&mut self) {
-        let held = self.pipe.held().saturating_add(self.unwritten_bytes());
+        let exchange = &self.pipe.exchange;
+        let held = exchange.held().saturating_add(exchange.standing());
         let bytes = held / COUNTED_BYTES * COUNTED_BYTES;
         if bytes == self.reserved {
             return;
@@ -307,15 +289,13 @@ impl<'d> Link<'d> {
 
     /// Ends it for want of room, and drops what it holds.
     fn drop_held(&mut self) {
-        self.pipe.cut(Ended::Memory);
-        self.pipe.unwritten.drop_all();
-        self.pipe.rest.drop_all();
-        self.session = self.session.anew(self.pipe.alloc);
+        self.pipe.is_cut = true;
+        self.pipe.exchange.drop_all(Ended::Memory);
     }
 
     /// The same at once where much stands, so that a reply for which there is no room is dropped before another one is made.
     pub(crate) fn reserve_much(&mut self) {
-        if self.unwritten_bytes() > MOST_HELD as u64 {
+        if self.pipe.exchange.standing() > MOST_HELD as u64 {
             self.reserve();
         }
     }

@@ -8,7 +8,7 @@ use crate::turns::Moment;
 use crate::worker::Worker;
 use hk_doors::Passes;
 use hk_host::{LinkEvent, Teller};
-use hk_session::Ended;
+use hk_session_parts::Ended;
 use mio::{Events, Poll, Token};
 use std::alloc::Global;
 use std::rt::Clock;
@@ -152,7 +152,7 @@ impl<'w, 'd, R: Wait + Clock + 'w> Reactor<'w, 'd, R> {
     ) -> Option<Box<Link<'d>, Global>> {
         let (alloc, now, staff) = (self.worker.alloc, self.worker.now, self.staff);
         let socket = accepted.into_socket().ok()?;
-        let link = Link::new(alloc, socket, door, place, now, staff.in_both, staff.meters);
+        let link = Link::new(alloc, socket, door, place, now, staff.meters);
         Box::new(alloc, link).ok()
     }
 

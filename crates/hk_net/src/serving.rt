@@ -3,15 +3,16 @@
 ghost use Rattle.std.specs.Prelude.{◌≡◌};
 
 use crate::arrivals::{Arrival, Inbox};
-use crate::doors::{Door, Way};
+use crate::doors::Door;
 use crate::link::Link;
 use crate::reactor::Reactor;
 use crate::shop::Shop;
 use crate::sockets::Accepted;
 use crate::turns::{Moment, Turn};
 use crate::worker::Worker;
-use hk_host::{FeedHost, NodeHost, SeatHost, Teller};
-use hk_node::{Node, NodeName, ReaderSeat};
+use hk_host::{NodeHost, Teller};
+use hk_node::{NodeName, ReaderSeat};
+use hk_seats::Way;
 use mio::{Events, Poll};
 use std::alloc::Global;
 use std::rt::Clock;
@@ -21,44 +22,18 @@ use std::thread::Threads;
 /// For how many milliseconds connections that had a turn have further ones before the system is asked what happened to others.
 const FURTHER_TURNS: u64 = 2;
 
-/// The turn of a connection that may do everything.
-fn turn_open<'a, 'd, J: NodeName, N: Wait + Drop, R: Threads + Wait + Sync>(
+/// The turn of a connection that may do so much, over a host of the seat, which is returned.
+fn turn_over<'a, 'd, J: NodeName, N: Wait + Drop, R: Threads + Wait + Sync>(
     rt: &'a R,
-    node: &'a Node<J, N>,
+    way: Way<'a, J, N>,
     teller: &'a Teller<'a>,
     worker: &mut Worker<'d>,
     moment: Moment,
     link: &mut Link<'d>,
     seat: ReaderSeat<J>,
 ) -> (Turn, ReaderSeat<J>) {
-    let host = NodeHost::telling(rt, worker.alloc, node, seat, teller);
+    let host = NodeHost::with_way(rt, worker.alloc, way, seat, Some(teller));
     let (turn, host) = worker.turn(moment, link, host);
-    (turn, host.into_seat())
-}
-
-/// The turn of a connection that sends items, and asks.
-fn turn_feeding<'a, 'd, J: NodeName, N: Wait + Drop, R: Threads + Wait + Sync>(
-    rt: &'a R,
-    node: &'a Node<J, N>,
-    teller: &'a Teller<'a>,
-    worker: &mut Worker<'d>,
-    moment: Moment,
-    link: &mut Link<'d>,
-    seat: ReaderSeat<J>,
-) -> (Turn, ReaderSeat<J>) {
-    let host = FeedHost::new(NodeHost::telling(rt, worker.alloc, node, seat, teller));
-    let (turn, host) = worker.turn(moment, link, host);
-    (turn, host.into_seat())
-}
-
-/// The turn of a connection that asks.
-fn turn_reading<'d, J: NodeName>(
-    worker: &mut Worker<'d>,
-    moment: Moment,
-    link: &mut Link<'d>,
-    seat: ReaderSeat<J>,
-) -> (Turn, ReaderSeat<J>) {
-    let (turn, host) = worker.turn(moment, link, SeatHost::new(seat));
     (turn, host.into_seat())
 }
 
@@ -114,11 +89,7 @@ impl<'w, 'd, J: NodeName + 'w, N: Wait + Drop + 'w, R: Threads + Wait + Clock + 
             worker,
             ..
         } = &mut self.reactor;
-        match &door.way {
-            Way::Open(node) => turn_open(*rt, node, teller, worker, moment, link, seat),
-            Way::Feeding(node) => turn_feeding(*rt, node, teller, worker, moment, link, seat),
-            Way::Reading => turn_reading(worker, moment, link, seat),
-        }
+        turn_over(*rt, door.way.again(), teller, worker, moment, link, seat)
     }
 
     /// Leaves a connection for a worker that gives long answers, with what this worker's seat has seen. Where that can't be done it ends.

@@ -4,7 +4,7 @@ use crate::arrivals::{Arrival, Inbox};
 use crate::doors::{Door, Limits};
 use crate::places::Places;
 use hk_host::Bell;
-use hk_link::Meters;
+use hk_meters::Meters;
 use hk_node::NodeName;
 use std::sync::Wait;
 use std::sync::atomic::{AtomicU64, Ordering};
@@ -19,8 +19,6 @@ pub(crate) struct Staff<'d> {
     /// What wakes each of them.
     pub(crate) bell: Bell,
     pub(crate) limits: Limits,
-    /// Whether connections are answered in both versions, or in version 1.
-    pub(crate) in_both: bool,
     /// Where it is counted what connections do.
     pub(crate) meters: &'d Meters<'d>,
     /// Which workers have a thread, a bit for each.

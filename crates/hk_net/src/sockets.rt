@@ -1,7 +1,5 @@
 //! A socket that never waits.
 
-ghost use Rattle.std.specs.Prelude.{◌≡◌, ◌≤◌, length, IfOk};
-
 use mio::net::{TcpStream, UnixStream};
 use mio::{Interest, Registry, Token};
 use std::io::{Read, Write};
@@ -46,39 +44,6 @@ impl Accepted {
 }
 
 impl Socket {
-    /// Reads what is there, at most as much as the buffer has room for; `WouldBlock` where nothing is.
-    pub(crate) fn read(&self, buf: &mut [u8]) -> io::Result<usize>
-        ensures fits { IfOk result (λ count. count ≤ length buf.new) }
-        ensures kept { length buf.new ≡ length buf.old }
-    {
-        match self {
-            Socket::Tcp(stream) => {
-                let mut stream = stream;
-                stream.read(buf)
-            }
-            Socket::Unix(stream) => {
-                let mut stream = stream;
-                stream.read(buf)
-            }
-        }
-    }
-
-    /// Writes as much as the system takes now; `WouldBlock` where that is nothing.
-    pub(crate) fn write(&self, bytes: &[u8]) -> io::Result<usize>
-        ensures { IfOk result (λ count. count ≤ length bytes.now) }
-    {
-        match self {
-            Socket::Tcp(stream) => {
-                let mut stream = stream;
-                stream.write(bytes)
-            }
-            Socket::Unix(stream) => {
-                let mut stream = stream;
-                stream.write(bytes)
-            }
-        }
-    }
-
     /// Closes it for writing, so that the peer sees that no more comes.
     pub(crate) fn end_writing(&self) -> io::Result<()> {
         match self {
@@ -101,6 +66,30 @@ impl Socket {
             Socket::Tcp(stream) => registry.deregister(stream),
             Socket::Unix(stream) => registry.deregister(stream),
         }
+    }
+}
+
+impl Read for Socket {
+    /// What is there, at most as much as the buffer has room for; `WouldBlock` where nothing is.
+    fn read(&mut self, buf: &mut [u8]) -> io::Result<usize> {
+        match self {
+            Socket::Tcp(stream) => stream.read(buf),
+            Socket::Unix(stream) => stream.read(buf),
+        }
+    }
+}
+
+impl Write for Socket {
+    /// As much as the system takes now; `WouldBlock` where that is nothing.
+    fn write(&mut self, bytes: &[u8]) -> io::Result<usize> {
+        match self {
+            Socket::Tcp(stream) => stream.write(bytes),
+            Socket::Unix(stream) => stream.write(bytes),
+        }
+    }
+
+    fn flush(&mut self) -> io::Result<()> {
+        Ok(())
     }
 }
 

@@ -13,7 +13,7 @@ use crate::watching::{Watch, hand_on};
 use crate::worker::{PIECE, WAKER};
 use crossbeam_channel::{Sender, bounded};
 use hk_host::{Bell, EVENTS, LinkEvent, NetFault, Teller};
-use hk_link::Meters;
+use hk_meters::Meters;
 use hk_node::{NodeName, ReaderSeat};
 use mio::{Events, Poll, Token, Waker};
 use std::alloc::{AllocError, Global};
@@ -253,7 +253,6 @@ fn staff_of<'d, J: NodeName, N: Wait + Drop, R: Net>(
     alloc: Global,
     doors: &[Door<'d, J, N>],
     workers: usize,
-    in_both: bool,
     limits: Limits,
     meters: &'d Meters<'d>,
 ) -> Result<(Vec<Poll>, Staff<'d>), NetFault> {
@@ -264,7 +263,6 @@ fn staff_of<'d, J: NodeName, N: Wait + Drop, R: Net>(
         workers,
         bell,
         limits,
-        in_both,
         meters,
         running: AtomicU64::new(0),
     };
@@ -293,8 +291,7 @@ fn shop_of<'d, J: NodeName, N: Wait + Drop>(
 /// connections that ask for something long, and what a change holds up are those of its worker.
 ///
 /// A connection is read, and its next request answered, only while at most 65,536 bytes of its replies stand unwritten. It is answered in
-/// version 1, or where `in_both` says so in both versions. Connections keep at most as many bytes as the budgets of their doors
-/// have. When a
+/// both versions. Connections keep at most as many bytes as the budgets of their doors have. When a
 /// session ends, the release of each of its pins is asked for; a pin whose release is refused then (`Damaged`, `NodeFull` or
 /// `Memory`) stays active, and is handed to the next connection of the worker that may release pins. An Await takes a place in a list, and
 /// no thread. What connections ask, how many there are and what they read and write is counted by `meters`, which are for as many doors.
@@ -316,13 +313,12 @@ pub fn serve_forever<
     alloc: Global,
     doors: Vec<Door<'d, J, N>>,
     seats: Vec<ReaderSeat<J>>,
-    in_both: bool,
     limits: Limits,
     meters: &'d Meters<'d>,
     watch: &mut T,
 ) -> Result<(), NetFault> {
     let mut seats = seats;
-    let (polls, staff) = staff_of(rt, alloc, &doors, seats.len(), in_both, limits, meters)?;
+    let (polls, staff) = staff_of(rt, alloc, &doors, seats.len(), limits, meters)?;
     ring_first(&staff.bell, &mut seats);
     let shop = shop_of(alloc, doors, staff)?;
     serve_shop(rt, alloc, &shop, polls, seats, watch)

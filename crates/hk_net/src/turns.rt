@@ -1,15 +1,14 @@
 //! A connection's turn: what is there is read, answered and written, at most so much that others have their turn soon.
 
-ghost use Rattle.std.specs.Prelude.{◌≡◌, ◌≤◌, length};
-
 use crate::link::{Link, Pipe};
-use crate::rest::Rest;
-use crate::writing::MOST_HELD;
-use hk_doors::{Passes, Taken, Then};
-use hk_link::{LinkState, NodeSide, PartsHost};
-use hk_session::{Ended, Host, Step};
-use hk_wire::{LaterReply, LaterRequest, Reply, Request};
-use std::io::ErrorKind;
+use hk_doors::{Passes, Then};
+use hk_exchange::{Came, How, LEAST_PIECE, Looked};
+use hk_link::PartsHost;
+use hk_link_state::{LinkState, NodeSide};
+use hk_messages::{LaterReply, LaterRequest, Reply, Request};
+use hk_pipes::MOST_HELD;
+use hk_session_parts::{Ended, Step};
+use std::io::{ErrorKind, Read};
 use std::mem;
 
 /// How often a connection is read in one turn at most.
@@ -36,6 +35,17 @@ pub(crate) struct Moment {
     pub(crate) readable: u64,
     /// The worker's clock, in milliseconds.
     pub(crate) now: u64,
+}
+
+impl Moment {
+    /// What is made of a connection's bytes.
+    fn how(self) -> How {
+        How {
+            passes: self.passes,
+            is_at_long_end: self.is_at_long_end,
+            counts_reads: self.counts_reads,
+        }
+    }
 }
 
 /// What is left of a connection after its turn.
@@ -81,16 +91,11 @@ fn release_some<H: NodeSide + Drop>(both: &mut PartsHost<'_, H>) -> bool
 impl Pipe<'_> {
     /// What a connection does next whose socket takes no more, or has a lot.
     fn until_written(&self) -> Turn {
-        if self.unwritten.is_writable() {
+        if self.exchange.is_writable() {
             Turn::Again
         } else {
             Turn::Waits
         }
-    }
-
-    /// Whether the read that is made now, inside a frame, is one too many for it.
-    fn reads_too_often(&mut self, moment: Moment) -> bool {
-        moment.counts_reads && self.watch.is_within() && self.watch.is_one_too_many()
     }
 
     /// Notes how far the session is. An Await whose time is readable, or that waits for no time at all, is answered by the next step.
@@ -104,7 +109,6 @@ impl Pipe<'_> {
                 if let Ended::Fault(fault) = ended {
                     self.meters.note_refusal(fault.number());
                 }
-                self.ended = Some(ended);
             }
             Step::Waits { t, milliseconds } => {
                 let number = t.number();
@@ -120,13 +124,31 @@ impl Pipe<'_> {
         None
     }
 
+    /// Reads once, and has its session answer what is complete.
+    fn read<H: NodeSide + Drop>(
+        &mut self,
+        how: How,
+        out: &mut Vec<u8>,
+        host: &mut PartsHost<'_, H>,
+        piece: &mut Vec<u8>,
+    ) -> Came
+        requires { H.ready host.old.inner }
+        ensures { H.ready host.new.inner }
+    {
+        self.exchange
+            .read(&mut self.socket, self.meters, how, piece, out, host)
+    }
+
     /// Takes what a step added, and writes what is long. Where the socket failed, or memory ran out, the connection ends.
     fn put(&mut self, moment: Moment, out: &mut Vec<u8>) {
         if !out.is_empty() {
             self.since = moment.now;
         }
-        if !self.unwritten.put(&self.socket, out, moment.is_at_long_end) {
-            self.cut(Ended::WriteFault);
+        if !self
+            .exchange
+            .put(&mut self.socket, out, moment.is_at_long_end)
+        {
+            self.is_cut = true;
         }
     }
 
@@ -138,30 +160,30 @@ impl Pipe<'_> {
 
     /// Whether a reply of it is written in part.
     pub(crate) fn is_writing(&self) -> bool {
-        self.is_full || !self.unwritten.is_empty()
+        self.is_full || self.has_unwritten()
     }
 
     /// Whether others have their turn before its session is handed more, which answered something or didn't.
     fn lets_others(&self, has_answered: bool) -> bool {
-        let waits = !self.rest.is_empty() && !self.rest_moves;
+        let waits = self.exchange.has_rest() && !self.rest_moves;
         !self.is_full && (waits || has_answered && self.is_readable)
     }
 
     /// Writes what stands, and counts what was written. Where the socket failed the connection ends.
     pub(crate) fn write(&mut self, now: u64) {
         self.write_standing(now);
-        self.meters.note_written(self.unwritten.take_sent());
+        self.meters.note_written(self.exchange.take_sent());
     }
 
     fn write_standing(&mut self, now: u64) {
         if self.is_cut {
             return;
         }
-        let before = self.unwritten.len();
-        if !self.unwritten.write(&self.socket) {
+        let before = self.exchange.unwritten();
+        if !self.exchange.write(&mut self.socket) {
             self.cut(Ended::WriteFault);
         }
-        if self.unwritten.len() < before {
+        if self.exchange.unwritten() < before {
             self.since = now;
             self.frame_since = now;
         }
@@ -169,10 +191,10 @@ impl Pipe<'_> {
 
     /// Whether something is to be done for it where all that stood is written: the system says nothing of a socket that took all.
     fn has_more(&self) -> bool {
-        if self.ended.is_some() {
+        if self.has_ended() {
             return !self.is_shut;
         }
-        let is_held = self.is_full || self.has_waited || self.is_far || !self.rest.is_empty();
+        let is_held = self.is_full || self.has_waited || self.is_far || self.exchange.has_rest();
         self.awaited.is_none() && (is_held || self.is_readable)
     }
 
@@ -183,10 +205,10 @@ impl Pipe<'_> {
         if self.is_cut {
             return Turn::Over;
         }
-        if !self.unwritten.is_empty() {
+        if self.has_unwritten() {
             return self.until_written();
         }
-        if self.ended == Some(Ended::Clean) {
+        if self.exchange.ended() == Some(Ended::Clean) {
             return Turn::Over;
         }
         if !self.is_shut {
@@ -223,169 +245,106 @@ impl Pipe<'_> {
 }
 
 impl<'d> Link<'d> {
-    /// Ends the session at the end of its input; these bytes began a frame.
-    fn end_input<H: Host>(&mut self, begun: &[u8], out: &mut Vec<u8>, host: &mut H) -> Step
-        requires { H.ready host.old }
-        ensures { H.ready host.new }
-    {
-        let step = self.session.take(begun, false, out, host);
-        if !matches!(step, Step::GoesOn) {
-            return step;
-        }
-        let fresh = self.session.anew(self.pipe.alloc);
-        let session = mem::replace(&mut self.session, fresh);
-        Step::Ended(session.finish(out))
-    }
-
-    /// Hands on one request that may take many looks, and answers it where it takes few.
-    fn take_apart<H: NodeSide + Drop>(
+    /// What a look at bytes came to: a request that may take many looks is answered where it takes few, else it waits.
+    fn looked<H: NodeSide + Drop>(
         &mut self,
-        piece: &[u8],
+        looked: Looked,
         out: &mut Vec<u8>,
         host: &mut PartsHost<'_, H>,
     ) -> Step
         requires { H.ready host.old.inner }
         ensures { H.ready host.new.inner }
     {
-        match self.session.take_briefly(piece, out, host) {
-            Some(step) => step,
-            None => {
-                self.pipe.is_far = true;
-                Step::GoesOn
-            }
+        self.pipe.rest_moves = looked.then == Then::Moves;
+        if !looked.is_apart {
+            return looked.step;
         }
-    }
-
-    /// Hands on of these bytes what the session may have now, which is answered.
-    fn hand_on<H: NodeSide + Drop>(
-        &mut self,
-        moment: Moment,
-        came: &mut [u8],
-        out: &mut Vec<u8>,
-        host: &mut PartsHost<'_, H>,
-    ) -> (Step, Taken)
-        requires ready { H.ready host.old.inner }
-        ensures ready { H.ready host.new.inner }
-        ensures some { result.1.count ≤ length came.new }
-    {
-        let taken = self
-            .pipe
-            .watch
-            .take(came, moment.passes, moment.is_at_long_end);
-        self.pipe.rest_moves = taken.then == Then::Moves;
-        let piece = &came[..taken.count];
-        let step = if taken.is_apart {
-            self.take_apart(piece, out, host)
-        } else {
-            self.session.take(piece, false, out, host)
+        let reply = match self.pipe.exchange.first_request() {
+            Some(request) => host.answer_briefly(request),
+            None => None,
         };
-        (step, taken)
+        match reply {
+            Some(reply) => {
+                // It was asked for just now, so it is taken.
+                let _back = self.pipe.exchange.put_reply(reply);
+            }
+            None if self.pipe.exchange.first_request().is_some() => {
+                self.pipe.is_far = true;
+                return Step::GoesOn;
+            }
+            None => {}
+        }
+        self.pipe.exchange.answer(false, out, host)
     }
 
-    /// Hands on what a read brought, behind what began a frame before; what isn't handed on waits.
-    fn take_in<H: NodeSide + Drop>(
-        &mut self,
-        moment: Moment,
-        came: &mut [u8],
-        out: &mut Vec<u8>,
-        host: &mut PartsHost<'_, H>,
-    ) -> Step
-        requires { H.ready host.old.inner }
-        ensures { H.ready host.new.inner }
-    {
-        let (step, taken) = self.hand_on(moment, came, out, host);
-        if taken.then != Then::Reads && !self.pipe.rest.put(&came[taken.count..]) {
-            return Step::Ended(Ended::Memory);
+    /// Notes what a read brought.
+    fn note_came(&mut self, moment: Moment, count: usize, room: usize) {
+        self.pipe.since = moment.now;
+        // A read that doesn't fill its buffer took all that had come: the system tells what comes next.
+        if count < room && !self.pipe.is_special {
+            self.pipe.is_readable = false;
         }
-        step
     }
 
     /// Reads once, and answers what is complete. `None` where nothing is there to read.
     fn read<H: NodeSide + Drop>(
         &mut self,
         moment: Moment,
-        piece: &mut [u8],
+        piece: &mut Vec<u8>,
         out: &mut Vec<u8>,
         host: &mut PartsHost<'_, H>,
     ) -> Option<Step>
         requires { H.ready host.old.inner }
-        ensures ready { H.ready host.new.inner }
-        ensures kept { length piece.new ≡ length piece.old }
+        ensures { H.ready host.new.inner }
     {
-        let begun = self.pipe.watch.put_begun(piece);
-        match self.pipe.socket.read(&mut piece[begun..]) {
-            Ok(0) => Some(self.end_input(&piece[..begun], out, host)),
-            Ok(count) => {
-                self.pipe.meters.note_read(count as u64);
-                self.pipe.since = moment.now;
-                if self.pipe.reads_too_often(moment) {
-                    return Some(Step::Ended(Ended::ReadFault));
-                }
-                // A read that doesn't fill its buffer took all that had come: the system tells what comes next.
-                if count < piece.len() - begun && !self.pipe.is_special {
-                    self.pipe.is_readable = false;
-                }
-                self.pipe.note_first(&piece[..begun + count]);
-                let step = self.take_in(moment, &mut piece[..begun + count], out, host);
+        let room = piece.len().saturating_sub(LEAST_PIECE);
+        match self.pipe.read(moment.how(), out, host, piece) {
+            Came::Bytes {
+                count,
+                first,
+                looked,
+            } => {
+                self.note_came(moment, count, room);
+                self.pipe.note_first(first);
+                let step = self.looked(looked, out, host);
                 // The frame that isn't complete, or that is for another worker, began with these bytes.
-                let held = self.pipe.held();
-                if held <= count as u64 {
+                if self.pipe.exchange.held() <= count as u64 {
                     self.pipe.frame_since = moment.now;
                 }
                 Some(step)
             }
-            Err(error) => match error.kind() {
-                ErrorKind::WouldBlock => {
-                    self.pipe.is_readable = false;
-                    None
-                }
-                ErrorKind::Interrupted => Some(Step::GoesOn),
-                _ => Some(Step::Ended(Ended::ReadFault)),
-            },
+            Came::Nothing => {
+                self.pipe.is_readable = false;
+                None
+            }
+            Came::Again => Some(Step::GoesOn),
+            Came::End(step) => Some(step),
+            Came::Failed => {
+                self.pipe.exchange.cut(Ended::ReadFault);
+                Some(Step::Ended(Ended::ReadFault))
+            }
         }
-    }
-
-    /// Hands on what had to wait.
-    fn take_rest<H: NodeSide + Drop>(
-        &mut self,
-        moment: Moment,
-        out: &mut Vec<u8>,
-        host: &mut PartsHost<'_, H>,
-    ) -> Step
-        requires { H.ready host.old.inner }
-        ensures { H.ready host.new.inner }
-    {
-        let none = Rest::new(self.pipe.alloc);
-        let mut rest = mem::replace(&mut self.pipe.rest, none);
-        let (step, taken) = self.hand_on(moment, rest.left(), out, host);
-        if taken.then == Then::Reads {
-            rest.drop_all();
-        } else {
-            rest.pass(taken.count);
-        }
-        self.pipe.rest = rest;
-        step
     }
 
     /// Answers what waits, or what is there to read. `None` where nothing is.
     fn step<H: NodeSide + Drop>(
         &mut self,
         moment: Moment,
-        piece: &mut [u8],
+        piece: &mut Vec<u8>,
         out: &mut Vec<u8>,
         host: &mut PartsHost<'_, H>,
     ) -> Option<Step>
         requires { H.ready host.old.inner }
-        ensures ready { H.ready host.new.inner }
-        ensures kept { length piece.new ≡ length piece.old }
+        ensures { H.ready host.new.inner }
     {
         if self.pipe.is_full || self.pipe.has_waited || self.pipe.is_far {
             self.pipe.is_far = false;
             let has_waited = mem::replace(&mut self.pipe.has_waited, false);
-            return Some(self.session.take(&[], has_waited, out, host));
+            return Some(self.pipe.exchange.answer(has_waited, out, host));
         }
-        if !self.pipe.rest.is_empty() {
-            return Some(self.take_rest(moment, out, host));
+        if self.pipe.exchange.has_rest() {
+            let looked = self.pipe.exchange.take_rest(moment.how(), out, host);
+            return Some(self.looked(looked, out, host));
         }
         if !self.pipe.is_readable {
             return None;
@@ -398,15 +357,15 @@ impl<'d> Link<'d> {
     pub(crate) fn end_round(&mut self, now: u64) -> bool {
         self.pipe.write(now);
         self.reserve();
-        let is_stopped = !self.pipe.unwritten.is_empty() || self.pipe.has_more();
-        self.pipe.is_cut || self.pipe.unwritten.is_writable() && is_stopped
+        let is_stopped = self.pipe.has_unwritten() || self.pipe.has_more();
+        self.pipe.is_cut || self.pipe.exchange.is_writable() && is_stopped
     }
 
     /// One after the other what can be done now, until the session ends.
     fn steps<H: NodeSide + Drop>(
         &mut self,
         moment: Moment,
-        piece: &mut [u8],
+        piece: &mut Vec<u8>,
         out: &mut Vec<u8>,
         host: &mut PartsHost<'_, H>,
     ) -> Turn
@@ -414,7 +373,7 @@ impl<'d> Link<'d> {
         ensures { H.ready host.new.inner }
     {
         for _ in 0..MOST_READS {
-            if self.pipe.unwritten.len() > MOST_HELD {
+            if self.pipe.exchange.unwritten() > MOST_HELD {
                 return self.pipe.until_written();
             }
             if self.pipe.has_to_move(moment) {
@@ -426,7 +385,7 @@ impl<'d> Link<'d> {
             let has_answered = !out.is_empty();
             let turn = self.pipe.note_step(step, moment.readable);
             self.pipe.put(moment, out);
-            if self.pipe.ended.is_some() {
+            if self.pipe.has_ended() {
                 return Turn::Again;
             }
             if let Some(turn) = turn {
@@ -470,7 +429,7 @@ impl<'d> Link<'d> {
     pub(crate) fn turn<H: NodeSide + Drop>(
         &mut self,
         moment: Moment,
-        piece: &mut [u8],
+        piece: &mut Vec<u8>,
         out: &mut Vec<u8>,
         host: H,
         left: &mut Vec<LinkState<'d>>,
@@ -481,13 +440,13 @@ impl<'d> Link<'d> {
         let Some(kept) = self.take_kept() else {
             return (self.pipe.linger(moment, piece), host);
         };
-        if self.pipe.ended.is_some() {
+        if self.pipe.has_ended() {
             return self.end_session(moment, host, kept, left);
         }
         let mut both = PartsHost::new(host, kept);
         let turn = self.steps(moment, piece, out, &mut both);
         let (host, kept) = both.into_parts();
-        if self.pipe.ended.is_some() {
+        if self.pipe.has_ended() {
             return self.end_session(moment, host, kept, left);
         }
         self.keep(kept);

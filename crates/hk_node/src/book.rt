@@ -1,8 +1,9 @@
 //! The list of a node's operations, which exists in the proofs alone, and the prefixes of it that were seen.
 
-ghost use Rattle.std.specs.Prelude.{◌≡◌, ◌<◌, ◌≤◌, ◌^◌, ◌++◌, ◌∷◌, [], true, false, length, None, IsTrue, IfSome};
+ghost use Rattle.std.specs.Prelude.{◌≡◌, ◌<◌, ◌≤◌, ◌^◌, ◌++◌, ◌∷◌, [], true, false, length, All, None, IsTrue, IfSome};
 ghost use mathlib.Core.List.{IsPrefix};
 ghost use Rattle.hk_oplog.specs.declared.op.Op.TheVariants.{Start as StartOf};
+ghost use Rattle.hk_oplog.specs.Final.{IsFormed};
 ghost use Rattle.hk_oplog.specs.Replay.{config_of, guarded_of, is_legal, kind_of, refusal_of, replay};
 ghost use Rattle.hk_node.specs.Book.{counter_of};
 
@@ -106,6 +107,8 @@ impl Model for Prefix {
     ghost use Rattle.std.specs.Prelude.{◌≡◌, true, List, length};
     ghost use Rattle.logbook.specs.Pages.{Book};
     ghost use Rattle.hk_oplog.specs.declared.op.Op.{Op};
+    ghost use Rattle.std.specs.Prelude.{All};
+    ghost use Rattle.hk_oplog.specs.Final.{IsFormed};
     ghost use Rattle.hk_oplog.specs.Replay.{is_legal, kind_of};
     ghost use Rattle.logbook.specs.Pages.{book_coded};
     ghost use Rattle.std.specs.Coded.{coded×, coded_list};
@@ -117,7 +120,7 @@ impl Model for Prefix {
 
     ghost view = { λ p. (p.seen.book, p.seen.log) };
 
-    ghost invariant = { λ p. (p.ops ≡ length p.seen.log) × (is_legal p.seen.log ≡ true) × (p.kind ≡ kind_of p.seen.log) };
+    ghost invariant = { λ p. (p.ops ≡ length p.seen.log) × (is_legal p.seen.log ≡ true) × (p.kind ≡ kind_of p.seen.log) × All IsFormed p.seen.log };
 }
 
 /// A new list, with the start of such a node alone.
@@ -151,6 +154,7 @@ impl Prefix {
     pub fn len(&self) -> u64
         ensures length { result ≡ length self.now.1 }
         ensures legal { is_legal self.now.1 ≡ true }
+        ensures formed { All IsFormed self.now.1 }
     {
         self.ops
     }
@@ -187,6 +191,7 @@ impl Prefix {
         requires legal { refusal_of (replay self.now.1) op.now ≡ None }
         ensures { IfSome result (λ p. p ≡ (self.now.0, self.now.1 ++ op.now ∷ [])) }
     {
+        op.formed();
         let count = self.ops.checked_sub(1)?;
         let ops = self.ops.checked_add(1)?;
         let mut seen = self.seen.again();

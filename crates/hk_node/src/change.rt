@@ -11,7 +11,7 @@ ghost use Rattle.hk_oplog.specs.Replay.{is_legal, refusal_of, replay, IsListOf};
 
 use crate::book::{NodeName, Prefix};
 use crate::publisher::{Publisher, Receipt};
-use hk_delta::Fragment;
+use hk_fragment::Fragment;
 use hk_log::Item;
 use hk_oplog::{Hold, Op};
 use hk_state::ReplicaState;

@@ -18,7 +18,8 @@ use crate::change::{
 use crate::guarding::take_agreed;
 use crate::publisher::{Publisher, Receipt, copies_of};
 use crate::seat::{ReaderSeat, seats_of};
-use hk_delta::{Fragment, whole_of};
+use hk_delta::whole_of;
+use hk_fragment::Fragment;
 use hk_log::Item;
 use hk_oplog::{Hold, Op};
 use hk_state::ReplicaState;

@@ -1,9 +1,10 @@
 //! What lies under the writer's lock: the copies, and the operation that waits.
 
-ghost use Rattle.std.specs.Prelude.{◌≡◌, ◌++◌, ◌∷◌, [], fold, length, None, true, MatchResult, IfOk, IfErr, IfSome, IsTrue, OnErr, ◌<◌, ◌≤◌, ◌^◌};
+ghost use Rattle.std.specs.Prelude.{◌≡◌, ◌++◌, ◌∷◌, [], All, fold, length, None, true, MatchResult, IfOk, IfErr, IfSome, IsTrue, OnErr, ◌<◌, ◌≤◌, ◌^◌};
 ghost use Rattle.left_right.specs.Sides.{view as known};
 ghost use Rattle.hk_oplog.specs.declared.op.Op.TheVariants.{Start as StartOf};
 ghost use Rattle.hk_types.specs.declared.faults.Refusal.TheVariants.{Memory};
+ghost use Rattle.hk_oplog.specs.Final.{IsFormed};
 ghost use Rattle.hk_oplog.specs.Replay.{kind_of, start_content, is_legal, refusal_of, replay, IsListOf};
 ghost use Rattle.hk_oplog.specs.Guarded.{AgreesWith};
 ghost use Rattle.hk_oplog.specs.NewItems.{count_new};
@@ -13,7 +14,7 @@ use crate::book::{Counter, NodeName, Prefix};
 use crate::replica::{Logged, Replica};
 use core::mem::replace_with;
 use crossbeam_utils::rule::{Outcome, Protocol};
-use hk_delta::Fragment;
+use hk_fragment::Fragment;
 use hk_log::Item;
 use hk_oplog::{NodeKind, Op};
 use hk_types::{Refusal, Time};
@@ -169,6 +170,7 @@ impl<J: NodeName> Receipt<J> {
     pub fn ops(&self) -> u64
         ensures length { result ≡ length self.now }
         ensures legal { IsListOf J.kind self.now }
+        ensures formed { All IsFormed self.now }
     {
         self.prefix.len()
     }

@@ -9,20 +9,20 @@ ghost use Rattle.left_right.specs.Sides.{view as known};
 ghost use Rattle.hk_store.specs.Reads.{facts_of_content};
 ghost use Rattle.hk_store.specs.TableLists.{AreTables};
 ghost use Rattle.hk_oplog.specs.Carried.{IsLatestOfPrimary, IsOfPrimary};
-ghost use Rattle.hk_oplog.specs.Final.{IsFinal, IsLatestFinal, IsPageFinal, IsPageFinalOrNone};
+ghost use Rattle.hk_oplog.specs.Final.{IsFormed, IsFinal, IsLatestFinal, IsAskedFinal, IsAskedFinalOrNone};
 ghost use Rattle.hk_oplog.specs.Holds.{HoldsBack};
 ghost use Rattle.hk_node.specs.Published.{IsOf, IsReplay, KeepsShown};
 ghost use Rattle.hk_oplog.specs.Replay.{config_of, guarded_of, is_legal, kind_of, replay, IsListOf};
-ghost use Rattle.hk_oplog.specs.Replies.{Answers, GivesOrMemory, GivesPageOrNone, GivesSeen, timed_seen, node_delta, node_front, node_latest, node_page, node_reply, node_streams, node_whole};
+ghost use Rattle.hk_oplog.specs.Replies.{Answers, GivesOrMemory, GivesPageOrNone, GivesSeen, timed_seen, node_delta, node_front, node_latest, page_asked, node_reply, node_streams, node_whole};
 
 use crate::book::{NodeName, Prefix};
 use crate::publisher::{NodeReader, NodeReading, NodeWriter, Observes, Receipt};
 use crate::replica::Replica;
 use atomic_table::{Join, Split};
-use hk_delta::Fragment;
-use hk_model::{Answer, Front, Page, Query, StreamsTold};
+use hk_fragment::Fragment;
+use hk_model::{Answer, Front, Page, PageQuery, Query, StreamsTold};
 use hk_oplog::{Body, NodeSizes};
-use hk_types::{Config, Key, Refusal, Table, Time};
+use hk_types::{Config, Refusal, Table, Time};
 use std::alloc::{AllocError, Global};
 use std::marker::{Model, PhantomData};
 
@@ -230,7 +230,7 @@ impl<J: NodeName> ReaderSeat<J> {
         ensures place { IfOk result (λ r. IsOf J.book (known r.place)) }
         ensures err { IfErr result (λ why. why ≡ Memory) }
     {
-        let _known = self.prefix.len();
+        let _legal = self.prefix.len();
         let Some(reader) = self.reader.take() else {
             return Err(Refusal::Memory);
         };
@@ -305,25 +305,15 @@ impl<J: NodeName> ReaderSeat<J> {
     ///
     /// Refusals in order: `Damaged`; then as those of `ask`: `TooOld`, `NotYet`, `Memory`. Cost: that of a page of a
     /// state.
-    pub fn page(
-        &mut self,
-        time: Time,
-        table: Table,
-        low: Key,
-        high: Key,
-        most: u32,
-    ) -> Result<Page, Refusal>
+    pub fn page(&mut self, of: PageQuery) -> Result<Page, Refusal>
         ensures legal { is_legal self.new ≡ true }
         ensures seen { IsPrefix self.old self.new }
-        ensures page { GivesSeen page_seen (node_page (replay self.new) time table low high most) result }
+        ensures page { GivesSeen page_seen (page_asked (replay self.new) of) result }
         ensures sound { J.kind.guarded ≡ true → IfErr result (λ why. why ≢ Damaged) }
-        ensures stays { J.kind.guarded ≡ true → IsPageFinal self.new time table low high most result }
+        ensures stays { J.kind.guarded ≡ true → IsAskedFinal self.new of result }
     {
         let reading = self.enter()?;
-        let page = reading
-            .get()
-            .body
-            .page(self.alloc, time, table, low, high, most);
+        let page = reading.get().body.page(self.alloc, of);
         self.leave(reading);
         page
     }
@@ -331,25 +321,14 @@ impl<J: NodeName> ReaderSeat<J> {
     /// The page that `page` gives, where it takes at most so many looks at a key; else `None`, and nothing of it is made.
     ///
     /// Refusals: those of `page`. Cost: that of a page of a state, with at most `looks` keys.
-    pub fn page_within(
-        &mut self,
-        time: Time,
-        table: Table,
-        low: Key,
-        high: Key,
-        most: u32,
-        looks: u64,
-    ) -> Result<Option<Page>, Refusal>
+    pub fn page_within(&mut self, of: PageQuery, looks: u64) -> Result<Option<Page>, Refusal>
         ensures legal { is_legal self.new ≡ true }
         ensures seen { IsPrefix self.old self.new }
-        ensures page { GivesPageOrNone (replay self.new) time table low high most result }
-        ensures stays { J.kind.guarded ≡ true → IsPageFinalOrNone self.new time table low high most result }
+        ensures page { GivesPageOrNone (replay self.new) of.time of.table of.low of.high of.most result }
+        ensures stays { J.kind.guarded ≡ true → IsAskedFinalOrNone self.new of result }
     {
         let reading = self.enter()?;
-        let page = reading
-            .get()
-            .body
-            .page_within(self.alloc, time, table, low, high, most, looks);
+        let page = reading.get().body.page_within(self.alloc, of, looks);
         self.leave(reading);
         page
     }
@@ -505,6 +484,7 @@ impl<J: NodeName> ReaderSeat<J> {
     pub fn seen(&self) -> u64
         ensures length { result ≡ length self.now }
         ensures legal { IsListOf J.kind self.now }
+        ensures formed { All IsFormed self.now }
     {
         self.prefix.len()
     }

@@ -23,7 +23,7 @@ use Rattle.hk_state.proofs.Replicas.{nothing_lawful}
 use Rattle.hk_oplog.specs.declared.op.NodeKind.{NodeKind}
 use Rattle.hk_oplog.specs.declared.op.Op.{Op}
 use Rattle.hk_oplog.specs.declared.op.Op.TheVariants.{Start, Join, Merge, Prune, Hold as HoldAt, Release}
-use Rattle.hk_oplog.specs.Final.{IsFormed, FinalLaw, StillGives, IsFinal, IsLatestFinal, IsPageFinal}
+use Rattle.hk_oplog.specs.Final.{AgainLaw, IsFormed, FinalLaw, StillGives, IsFinal, IsLatestFinal, IsPageFinal}
 use Rattle.hk_oplog.specs.NodeContent.{NodeContent}
 use Rattle.hk_oplog.specs.Replay.{prune_reach, refusal_of, join_refused, after_join, after_prune, effect, content_after_op, start_content, replay, guarded_of, legal_from, is_legal, IsListOf}
 use Rattle.hk_oplog.specs.Replies.{Answers, GivesSeen, node_latest, node_page, node_reply, timed_seen, with_time}
@@ -148,6 +148,9 @@ stays ops more formed legal on is t q told e =
       | inl y ↦ inl (same ∙ y)
       | inr n ↦ inr (same ∙ n)
     ]
+
+pub again_law_proof : AgainLaw
+again_law_proof = stays
 
 guarded_list : (kind : NodeKind) (ops : List Op) → IsListOf kind ops → kind.guarded ≡ true → guarded_of ops ≡ true
 guarded_list kind ops of is = ap (λ (k : NodeKind). k.guarded) of.1 ∙ is

@@ -2,10 +2,11 @@
 use Rattle.std.specs.Prelude.{◌≡◌, ◌⊎◌, ◌≤◌, ◌++◌, ℕ, true, All, List, Option, Result, Ok, Err, IfOk, IfSome}
 use Rattle.hk_types.specs.declared.faults.Refusal.{Refusal}
 use Rattle.hk_types.specs.declared.faults.Refusal.TheVariants.{TooOld}
+use Rattle.hk_model.specs.declared.page.PageQuery.{PageQuery}
 use Rattle.hk_model.specs.declared.answer.Answer.{Answer}
 use Rattle.hk_model.specs.declared.page.Page.{Page}
 use Rattle.hk_model.specs.declared.query.Query.{Query}
-use Rattle.hk_model.specs.Replica.Answers.{answer_seen}
+use Rattle.hk_model.specs.Replica.Answers.{AnswerValue, answer_seen}
 use Rattle.hk_model.specs.Replica.Content.{readable}
 use Rattle.hk_model.specs.Replica.Lawful.{IsLawfulFragment}
 use Rattle.hk_model.specs.Replica.Pages.{page_seen}
@@ -32,6 +33,12 @@ FinalLaw =
 abbrev pub StillGives : {X : Type 0} → NodeContent → Result X Refusal → X → Type 0
 StillGives c now told = (now ≡ Ok told) ⊎ (now ≡ Err (TooOld c.content.horizon))
 
+-- what a guarded node answered, it answers after each later list too, or the time is below the horizon there
+abbrev pub AgainLaw : Type 0
+AgainLaw =
+    (ops more : List Op) → All IsFormed (ops ++ more) → is_legal ops ≡ true → is_legal (ops ++ more) ≡ true → guarded_of ops ≡ true →
+    (t : ℕ) (query : Query) (told : AnswerValue) → node_reply (replay ops) t query ≡ Ok told → StillGives (replay (ops ++ more)) (node_reply (replay (ops ++ more)) t query) told
+
 -- every legal list that goes on with this one
 abbrev pub Later : (List Op → Type 0) → List Op → Type 0
 Later holds ops = (more : List Op) → All IsFormed (ops ++ more) → is_legal (ops ++ more) ≡ true → holds (ops ++ more)
@@ -51,3 +58,10 @@ IsPageFinal ops t table low high most result = IfOk result (λ page. Later (λ l
 -- so is one of a call that may give up, where it gave one
 abbrev pub IsPageFinalOrNone : List Op → ℕ → ℕ → ℕ → ℕ → ℕ → Result (Option Page) Refusal → Type 0
 IsPageFinalOrNone ops t table low high most result = IfOk result (λ found. IfSome found (λ page. IsPageFinal ops t table low high most (Ok page)))
+
+-- the same of a page that is asked for
+abbrev pub IsAskedFinal : List Op → PageQuery → Result Page Refusal → Type 0
+IsAskedFinal ops of result = IsPageFinal ops of.time of.table of.low of.high of.most result
+
+abbrev pub IsAskedFinalOrNone : List Op → PageQuery → Result (Option Page) Refusal → Type 0
+IsAskedFinalOrNone ops of result = IsPageFinalOrNone ops of.time of.table of.low of.high of.most result

@@ -1,19 +1,22 @@
 -- What a node replies to its readers.
-use Rattle.std.specs.Prelude.{◌≡◌, ◌⊎◌, ℕ, map, nat_lt, if◌then◌else◌, Option, MatchOption, Result, Ok, Err, MatchResult}
+use Rattle.std.specs.Prelude.{◌≡◌, ◌⊎◌, ◌<◌, ℕ, map, nat_lt, if◌then◌else◌, Option, MatchOption, Result, Ok, Err, MatchResult}
 use Rattle.std.specs.Option.{option_map}
 use Rattle.hk_types.specs.declared.faults.Refusal.{Refusal}
 use Rattle.hk_types.specs.declared.faults.Refusal.TheVariants.{Damaged, TooOld, Memory}
+use Rattle.hk_model.specs.declared.page.PageQuery.{PageQuery}
 use Rattle.hk_model.specs.declared.answer.Answer.{Answer}
 use Rattle.hk_model.specs.declared.front.Front.{Front}
 use Rattle.hk_model.specs.declared.page.Page.{Page}
 use Rattle.hk_model.specs.declared.query.Query.{Query}
-use Rattle.hk_model.specs.declared.query.Query.TheVariants.{Range}
+use Rattle.hk_model.specs.declared.query.Query.TheVariants.{Get, Range, ByTag, Count}
 use Rattle.hk_model.specs.Replica.Answers.{AnswerValue, answer_seen, reply}
 use Rattle.hk_model.specs.Replica.Content.{readable}
 use Rattle.hk_model.specs.Replica.Fragments.{FragmentValue, cut}
 use Rattle.hk_model.specs.Replica.Pages.{PageValue, page_reply, page_seen}
 use Rattle.hk_model.specs.Replica.StreamsTold.{StreamsValue}
 use Rattle.hk_marks.specs.Told.{stream_told}
+use Rattle.hk_chains.specs.Reads.{facts_of_content, rows_ranged}
+use Rattle.hk_chains.specs.Sizes.{answer_size}
 use Rattle.hk_oplog.specs.NodeContent.{NodeContent}
 use Rattle.hk_oplog.specs.Replay.{least_hold}
 
@@ -28,9 +31,21 @@ with_time t (Err why) = Err why
 abbrev pub node_latest : NodeContent → Query → Result (ℕ × AnswerValue) Refusal
 node_latest c query = with_time (readable c.content) (node_reply c (readable c.content) query)
 
+-- An answer may be too long for so much room where it is one of rows; that to a range is where these take more. Of rows with
+-- a tag nothing is said.
+abbrev pub MayBeLong : NodeContent → ℕ → ℕ → Query → Type 0
+MayBeLong c t room (Get table key) = ⊥
+MayBeLong c t room (Range table low high) = room < answer_size (rows_ranged (facts_of_content c.content) t table low high)
+MayBeLong c t room (ByTag table tag) = Unit {0}
+MayBeLong c t room (Count table) = ⊥
+
 -- the first page of what is replied to a range
 abbrev pub node_page : NodeContent → ℕ → ℕ → ℕ → ℕ → ℕ → Result PageValue Refusal
 node_page c t table low high most = page_reply most (node_reply c t (Range table low high))
+
+-- the one that is asked for
+abbrev pub page_asked : NodeContent → PageQuery → Result PageValue Refusal
+page_asked c of = node_page c of.time of.table of.low of.high of.most
 
 -- how far the node is, and each of its streams: of a damaged one too
 abbrev pub node_streams : NodeContent → StreamsValue

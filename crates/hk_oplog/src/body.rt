@@ -3,6 +3,7 @@
 ghost use Rattle.std.specs.Prelude.{◌≡◌, ◌≢◌, ◌⊎◌, ◌<◌, ◌≤◌, ◌^◌, true, length, None, IsOk, IfOk, IfErr, IfSome, IfNone, MatchResult};
 ghost use Rattle.std.specs.Option.{option_map};
 ghost use Rattle.hk_types.specs.declared.faults.Refusal.TheVariants.{Damaged, Memory};
+ghost use Rattle.hk_model.specs.Replica.Content.{readable};
 ghost use Rattle.hk_model.specs.Replica.Fragments.{cut};
 ghost use Rattle.hk_model.specs.Replica.Rules.{contents_conflict};
 ghost use Rattle.hk_model.specs.Replica.Touches.{join_touches_past, prune_touches_past};
@@ -20,17 +21,18 @@ ghost use Rattle.hk_store.specs.Reads.{facts_of_content};
 ghost use Rattle.hk_store.specs.TableLists.{AreTables};
 ghost use Rattle.hk_oplog.specs.Guarded.{AgreesWith};
 ghost use Rattle.hk_oplog.specs.NewItems.{count_new};
-ghost use Rattle.hk_oplog.specs.Replies.{Answers, GivesOrMemory, GivesPageOrNone, GivesSeen, timed_seen, node_delta, node_front, node_latest, node_page, node_reply, node_streams, node_whole};
+ghost use Rattle.hk_oplog.specs.Replies.{Answers, GivesOrMemory, GivesPageOrNone, GivesSeen, MayBeLong, timed_seen, node_delta, node_front, node_latest, page_asked, node_reply, node_streams, node_whole};
 
 use crate::op::{Hold, NodeKind, Op};
 use crate::sizes::{NodeSizes, weight_of};
-use hk_delta::{Fragment, agreed_so, conflicts_with, delta_since, join, whole_of};
+use hk_delta::{agreed_so, conflicts_with, delta_since, join, whole_of};
+use hk_fragment::Fragment;
 use hk_log::Item;
 use hk_merge::{Sent, join_touches_past, wrong_log};
-use hk_model::{Answer, Front, Page, Query, StreamsTold};
+use hk_model::{Answer, Front, Page, PageQuery, Query, StreamsTold};
 use hk_query::{ask, latest, page, page_within};
 use hk_state::{ReplicaState, front_of};
-use hk_types::{Config, Key, LAST_OP, Refusal, Table, Time};
+use hk_types::{Config, LAST_OP, Refusal, Table, Time};
 use std::alloc::{AllocError, Global};
 use std::collections::BTreeMap;
 use std::marker::Model;
@@ -196,7 +198,7 @@ impl Body {
     fn conflicts_with_state(&self, state: &ReplicaState) -> bool
         ensures { result ≡ contents_conflict self.now.content (cut state.now 0).content }
     {
-        let _known = state.horizon();
+        let _lawful = state.horizon();
         let theirs = state.facts();
         self.state.facts().conflicts_with(theirs)
     }
@@ -225,7 +227,7 @@ impl Body {
     fn past_refusal_of_state(&self, state: &ReplicaState) -> Option<Refusal>
         ensures { result ≡ spec.past_refusal self.now (join_touches_past self.now.content (cut state.now 0)) }
     {
-        let _known = state.horizon();
+        let _lawful = state.horizon();
         self.past_refusal(&Sent::Whole(state))
     }
 
@@ -529,40 +531,28 @@ impl Body {
     }
 
     /// The first page of the rows of a table with keys from a low to a high one, at a time.
-    pub fn page(
-        &self,
-        alloc: Global,
-        time: Time,
-        table: Table,
-        low: Key,
-        high: Key,
-        most: u32,
-    ) -> Result<Page, Refusal>
-        ensures { GivesSeen page_seen (node_page self.now time table low high most) result }
+    pub fn page(&self, alloc: Global, of: PageQuery) -> Result<Page, Refusal>
+        ensures { GivesSeen page_seen (page_asked self.now of) result }
     {
         if self.damaged {
             return Err(Refusal::Damaged);
         }
-        page(alloc, &self.state, time, table, low, high, most)
+        page(alloc, &self.state, of)
     }
 
     /// The same page where it takes at most so many looks at a key, else none.
     pub fn page_within(
         &self,
         alloc: Global,
-        time: Time,
-        table: Table,
-        low: Key,
-        high: Key,
-        most: u32,
+        of: PageQuery,
         looks: u64,
     ) -> Result<Option<Page>, Refusal>
-        ensures { GivesPageOrNone self.now time table low high most result }
+        ensures { GivesPageOrNone self.now of.time of.table of.low of.high of.most result }
     {
         if self.damaged {
             return Err(Refusal::Damaged);
         }
-        page_within(alloc, &self.state, time, table, low, high, most, looks)
+        page_within(alloc, &self.state, of, looks)
     }
 
     /// The least pinned time, where a pin is active.
@@ -645,8 +635,12 @@ impl Body {
     }
 
     /// Whether the answer to a query at a time takes more bytes than so many, at most counted. Where it would be refused it
-    /// says no. Cost: O(1) where all that is held has no more bytes; else that of the answer without its copies.
-    pub fn is_answer_above(&self, alloc: Global, time: Time, query: &Query, room: u64) -> bool {
+    /// says no, and where it isn't a list of rows. Cost: O(1) where all that is held has no more bytes; else that of the answer without
+    /// its copies.
+    pub fn is_answer_above(&self, alloc: Global, time: Time, query: &Query, room: u64) -> bool
+        ensures answer { result ≡ true → IsOk (node_reply self.now time query.now) }
+        ensures long { result ≡ true → MayBeLong self.now time room query.now }
+    {
         let facts = self.state.facts();
         if self.damaged || facts.bytes_of_all() <= room {
             return false;
@@ -667,7 +661,10 @@ impl Body {
     }
 
     /// The same at its resolved time.
-    pub fn is_latest_above(&self, alloc: Global, query: &Query, room: u64) -> bool {
+    pub fn is_latest_above(&self, alloc: Global, query: &Query, room: u64) -> bool
+        ensures answer { result ≡ true → IsOk (node_latest self.now query.now) }
+        ensures long { result ≡ true → MayBeLong self.now (readable self.now.content) room query.now }
+    {
         self.is_answer_above(alloc, self.state.readable(), query, room)
     }
 

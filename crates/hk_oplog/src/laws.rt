@@ -1,7 +1,7 @@
 //! What every node obeys.
 
 ghost use Rattle.hk_oplog.specs.Carried.{CarryLaw};
-ghost use Rattle.hk_oplog.specs.Final.{FinalLaw};
+ghost use Rattle.hk_oplog.specs.Final.{AgainLaw, FinalLaw};
 ghost use Rattle.hk_oplog.specs.Guarded.{GuardLaw};
 ghost use Rattle.hk_oplog.specs.Holds.{HoldLaw};
 
@@ -26,4 +26,10 @@ pub fn carry_law()
 /// assumes nothing of what came.
 pub fn final_law()
     ensures { FinalLaw }
+{}
+
+/// Who asks again gets the same: what a guarded node answered after a legal list, it answers after each legal list that this
+/// goes on with, or refuses since the time is below the oldest readable one there.
+pub fn again_law()
+    ensures { AgainLaw }
 {}

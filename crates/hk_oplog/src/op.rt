@@ -1,8 +1,9 @@
 //! The operations of a node.
 
 ghost use Rattle.std.specs.Prelude.{◌≡◌};
+ghost use Rattle.hk_oplog.specs.Final.{IsFormed};
 
-use hk_delta::Fragment;
+use hk_fragment::Fragment;
 use hk_types::{Config, Time};
 
 /// A pinned time: it stays readable until the pin is released. While the pin is active, the oldest readable time does
@@ -52,4 +53,18 @@ pub enum Op {
     Hold(Time),
     /// The release of a pin.
     Release { reader: u64, at: Time },
+}
+
+impl Op {
+    /// That a fragment which it has is lawful, as each is. It takes no memory, and does nothing.
+    pub fn formed(&self)
+        ensures { IsFormed self.now }
+    {
+        match self {
+            Op::Join(fragment) | Op::Merge(fragment) => {
+                let _lawful = fragment.base();
+            }
+            Op::Start(_) | Op::Prune(_) | Op::Hold(_) | Op::Release { .. } => {}
+        }
+    }
 }

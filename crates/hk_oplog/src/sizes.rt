@@ -1,6 +1,6 @@
 //! How much a node holds.
 
-use hk_store::Tally;
+use hk_chains::Tally;
 
 /// How many bytes a version counts in a fragment beside its row and its end: 19 of a message, and 128 for its place in memory.
 const BESIDE_VERSION: u64 = 147;

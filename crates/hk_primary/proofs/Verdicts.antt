@@ -15,7 +15,7 @@ use Rattle.hk_model.specs.History.Rows.{RowKey, row_key_cmp}
 use Rattle.hk_model.specs.History.Histories.{Transaction, History, MayCommit, commits, is_retired, written_key, tables_of, last, Follows, KeysRise}
 use Rattle.hk_model.specs.History.Commits.{last_written, first_conflict, first_absent}
 use Rattle.hk_model.specs.declared.write_op.WriteOp.{WriteOp}
-use Rattle.hk_model.proofs.History.Commits.{rises, present}
+use Rattle.hk_model.proofs.History.Commits.{rises, follows_at}
 use Rattle.hk_model.proofs.Replica.Maps.{row_key_total}
 use Rattle.hk_model.proofs.Replica.Visible.{get_entry}
 use Rattle.hk_primary.specs.Calls.{verdict_of, verdict_time, time_of, Tells, primary_after}
@@ -38,25 +38,7 @@ accepted_follows : (config : ConfigValue) (after : ℕ) (h : List Transaction) (
 accepted_follows config after h stream ws (Some k) b t above within few rise p e = absurd cc
 accepted_follows config after h stream ws None (Some k) t above within few rise p e = absurd cc
 accepted_follows config after h stream [] None None t above within few rise p e = absurd cc
-accepted_follows config after h stream (w ∷ ws) None None t above within few rise p e =
-    elim (nat_le (2 ^ 62) (clock after h)) as (λ b. nat_le (2 ^ 62) (clock after h) ≡ b → cond b (Err ClockFull) (Ok (Some (record { time = clock after h + 1; stream = stream; writes = w ∷ ws }))) ≡ Ok (Some t) → Follows config h t × (t.stream ≡ stream)) [
-      | true ↦ λ c f. absurd cc
-      | false ↦ λ c f.
-          let l = leb-false (2 ^ 62) (clock after h) c in
-          let s : record { time = clock after h + 1; stream = stream; writes = w ∷ ws } ≡ t = cc in (
-            subst (Follows config h) s (record {
-              later = omega arith;
-              in_time = omega arith;
-              stream_above = above;
-              stream_within = within;
-              some_write = omega arith;
-              few_writes = few;
-              keys_rise = rise;
-              removes_present = present (tables_of h) (w ∷ ws) (sym p);
-            }),
-            sym (ap (λ (x : Transaction). x.stream) s),
-          )
-    ] refl e
+accepted_follows config after h stream (w ∷ ws) None None t above within few rise p e = follows_at config (clock after h) h stream w ws t (omega arith) above within few rise (sym p) e
 
 pub accepted_law_proof : AcceptedLaw
 accepted_law_proof config after history stream read_at d t are e =

@@ -8,7 +8,8 @@ ghost use Rattle.hk_query.specs.Memory.{takes_memory};
 ghost use Rattle.hk_primary.specs.Calls.{answer_on, readable_on};
 
 use crate::primary::Primary;
-use hk_query::{Answer, Query, answer_at};
+use hk_model::{Answer, Query};
+use hk_query::answer_at;
 use hk_types::{Refusal, Time};
 
 impl Primary {

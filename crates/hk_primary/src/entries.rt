@@ -9,9 +9,9 @@ ghost use Rattle.hk_primary.specs.Txns.{committed_at, writes_in};
 
 use crate::primary::Primary;
 use crate::txn::Txn;
+use hk_index::RowKey;
 use hk_log::Entry;
 use hk_model::WriteOp;
-use hk_store::RowKey;
 use hk_types::{Key, Row, StreamNo, Table, Time, VersionKey};
 use std::alloc::{AllocError, Global};
 

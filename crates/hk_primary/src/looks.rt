@@ -8,9 +8,10 @@ ghost use Rattle.hk_primary.specs.Txns.{writes_in};
 
 use crate::primary::Primary;
 use crate::txn::Txn;
+use hk_index::RowKey;
 use hk_log::Version;
 use hk_model::WriteOp;
-use hk_store::{Facts, RowKey};
+use hk_store::Facts;
 use hk_types::Time;
 
 /// Of the versions of a row that were born up to a time, the one born last: its birth, and its end if it has

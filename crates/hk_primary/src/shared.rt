@@ -10,7 +10,7 @@ ghost use Rattle.hk_primary.specs.Txns.{no_writes};
 use crate::primary::Primary;
 use crate::txn::Txn;
 use hk_log::{Item, Mark};
-use hk_query::{Answer, Query};
+use hk_model::{Answer, Query};
 use hk_types::{Config, Refusal, StreamNo, Time};
 use std::alloc::Global;
 use std::marker::Brand;
@@ -163,7 +163,7 @@ impl<K: Naming> SharedPrimary<K> {
     {
         let mut held = self.held.lock(rt);
         let Held { primary, emitted } = &mut *held;
-        let _known = primary.last();
+        let _lawful = primary.last();
         emitted.audit(share);
         let time = primary.commit(txn, stream)?;
         if time.is_some() {

@@ -5,9 +5,9 @@ ghost use Rattle.std.specs.FinMap as finmap;
 ghost use Rattle.hk_model.specs.declared.write_op.WriteOp.TheVariants.{Put, Remove};
 ghost use Rattle.hk_primary.specs.Txns.{AreWrites, IsRefusal, no_writes, with_write, write_refused};
 
+use hk_index::RowKey;
 use hk_log::MOST_WRITES;
 use hk_model::WriteOp;
-use hk_store::RowKey;
 use hk_types::{Key, Refusal, Row, Table, Time};
 use std::alloc::Global;
 use std::collections::BTreeMap;

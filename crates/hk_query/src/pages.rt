@@ -4,29 +4,25 @@ ghost use Rattle.std.specs.Prelude.{Some};
 ghost use Rattle.hk_query.specs.Pages.{PageReplies, PageRepliesWithin, PagesEnd, PagesGoOn};
 
 use crate::reply::time_refusal;
-use hk_model::{PAGE_BYTES, Page};
+use hk_model::{PAGE_BYTES, Page, PageQuery};
 use hk_state::ReplicaState;
-use hk_types::{Key, Refusal, Table, Time};
+use hk_types::Refusal;
 use std::alloc::Global;
 
 /// The page that `page` gives, or none where it would look at more keys than `looks`, if that is a number.
 fn page_looking(
     alloc: Global,
     state: &ReplicaState,
-    time: Time,
-    table: Table,
-    low: Key,
-    high: Key,
-    most: u32,
+    of: PageQuery,
     looks: Option<u64>,
 ) -> Result<Option<Page>, Refusal>
-    ensures { PageRepliesWithin looks state.now time table low high most result }
+    ensures { PageRepliesWithin looks state.now of.time of.table of.low of.high of.most result }
 {
-    match time_refusal(state, time) {
+    match time_refusal(state, of.time) {
         Some(why) => Err(why),
-        None => state
-            .facts()
-            .page(alloc, time, table, low, high, looks, most, PAGE_BYTES),
+        None => state.facts().page(
+            alloc, of.time, of.table, of.low, of.high, looks, of.most, PAGE_BYTES,
+        ),
     }
 }
 
@@ -37,18 +33,10 @@ fn page_looking(
 /// Refusals in order, as those of `ask`: `TooOld` below the oldest readable time, `NotYet` above the resolved time,
 /// `Memory`. Cost: O(log n + k · log n + b), n facts, k keys of which anything is known from low up to the first row
 /// that is left out, b bytes of the bodies that are copied.
-pub fn page(
-    alloc: Global,
-    state: &ReplicaState,
-    time: Time,
-    table: Table,
-    low: Key,
-    high: Key,
-    most: u32,
-) -> Result<Page, Refusal>
-    ensures { PageReplies state.now time table low high most result }
+pub fn page(alloc: Global, state: &ReplicaState, of: PageQuery) -> Result<Page, Refusal>
+    ensures { PageReplies state.now of.time of.table of.low of.high of.most result }
 {
-    match page_looking(alloc, state, time, table, low, high, most, None)? {
+    match page_looking(alloc, state, of, None)? {
         Some(page) => Ok(page),
         None => Err(Refusal::Memory),
     }
@@ -59,16 +47,12 @@ pub fn page(
 pub fn page_within(
     alloc: Global,
     state: &ReplicaState,
-    time: Time,
-    table: Table,
-    low: Key,
-    high: Key,
-    most: u32,
+    of: PageQuery,
     looks: u64,
 ) -> Result<Option<Page>, Refusal>
-    ensures { PageRepliesWithin (Some looks) state.now time table low high most result }
+    ensures { PageRepliesWithin (Some looks) state.now of.time of.table of.low of.high of.most result }
 {
-    page_looking(alloc, state, time, table, low, high, most, Some(looks))
+    page_looking(alloc, state, of, Some(looks))
 }
 
 /// Pages that are asked one after another, each with `low` above the last key of the one before, are together the rows of their

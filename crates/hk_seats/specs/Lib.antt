@@ -1,3 +1,4 @@
 pub mod Replying
 pub mod Serving
 pub mod Telling
+pub mod Ways

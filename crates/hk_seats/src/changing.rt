@@ -16,11 +16,12 @@ ghost use Rattle.hk_seats.specs.Replying.{IsChangeReply, IsItemsReply, IsReplyTo
 
 use crate::reading::read_at;
 use hk_batch::{OpenGate, build};
-use hk_delta::{Fragment, fragment_of};
+use hk_delta::fragment_of;
+use hk_fragment::Fragment;
 use hk_log::Item;
+use hk_messages::{LaterReply, Reply, Request};
 use hk_node::{Node, NodeName, ReaderSeat, Receipt};
 use hk_types::{Config, Refusal, Time};
-use hk_wire::{LaterReply, Reply, Request};
 use std::alloc::Global;
 use std::sync::Wait;
 use std::thread::Threads;
@@ -47,7 +48,7 @@ pub fn learn<J: NodeName>(seat: &mut ReaderSeat<J>, receipt: Receipt<J>) -> Resu
         return Err(Refusal::Unpublished { ops });
     }
     seat.learn(receipt);
-    let _known = seat.seen();
+    let _legal = seat.seen();
     Ok(ops)
 }
 
@@ -63,7 +64,7 @@ fn reply_to<J: NodeName>(seat: &mut ReaderSeat<J>, answered: Result<Receipt<J>, 
             Err(why) => Reply::Refused(why),
         },
         Err(why) => {
-            let _known = seat.seen();
+            let _legal = seat.seen();
             Reply::Refused(why)
         }
     }
@@ -121,7 +122,7 @@ fn join_gathered<J: NodeName, N: Wait + Drop, R: Wait>(
             Err(why) => Err(why),
         },
         Err(why) => {
-            let _known = seat.seen();
+            let _legal = seat.seen();
             Err(why)
         }
     }
@@ -143,7 +144,7 @@ fn gather_and_join<J: NodeName, N: Wait + Drop, R: Threads + Wait + Sync>(
     match gather(rt, alloc, seat.config(), items) {
         Ok(fragment) => join_gathered(rt, node, seat, fragment, items),
         Err(why) => {
-            let _known = seat.seen();
+            let _legal = seat.seen();
             Err(why)
         }
     }
@@ -167,7 +168,7 @@ fn take<J: NodeName, N: Wait + Drop, R: Wait>(
             Err(why) => Err(why),
         },
         Err(why) => {
-            let _known = seat.seen();
+            let _legal = seat.seen();
             Err(why)
         }
     }

@@ -2,14 +2,15 @@
 
 ghost use Rattle.std.specs.Prelude.{◌≡◌, true, false};
 ghost use Rattle.hk_seats.specs.Replying.{IsFed, IsUnfed};
-ghost use Rattle.hk_seats.specs.Telling.{IsChange};
+ghost use Rattle.hk_seats.specs.Telling.{IsChange, is_change, is_fed};
 
-use hk_wire::Request;
+use hk_messages::Request;
 
 /// Whether a request asks for a change of the node: then its reply stays right while the seat's list goes on, as `IsChange` has it. Cost:
 /// O(1).
 pub fn is_change(request: &Request) -> bool
-    ensures { result ≡ true → IsChange request.now }
+    ensures kind { result ≡ is_change request.now }
+    ensures reply { result ≡ true → IsChange request.now }
 {
     match request {
         Request::Items(_) => true,
@@ -21,6 +22,7 @@ pub fn is_change(request: &Request) -> bool
 
 /// Whether a request has a meaning for a feeder's connection: the others are refused. Cost: O(1).
 pub fn is_fed(request: &Request) -> bool
+    ensures kind { result ≡ is_fed request.now }
     ensures fed { result ≡ true → IsFed request.now }
     ensures unfed { result ≡ false → IsUnfed request.now }
 {

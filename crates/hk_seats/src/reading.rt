@@ -10,17 +10,17 @@ ghost use Rattle.hk_oplog.specs.Replay.{is_legal, replay};
 ghost use Rattle.hk_oplog.specs.Replies.{node_delta, node_front, node_reply, node_whole};
 ghost use Rattle.hk_seats.specs.Replying.{IsOrOutOfMemory, MayOnlyRead, front_reply};
 
+use hk_messages::{Reply, Request};
 use hk_model::Query;
 use hk_node::{NodeName, ReaderSeat};
 use hk_types::{FormFault, Refusal, Time};
-use hk_wire::{Reply, Request};
 
 /// The reply to a request that has no meaning here, which is dropped. Cost: O(1).
 pub fn no_kind<J: NodeName, C: Drop>(seat: &ReaderSeat<J>, _asked: C) -> Reply
     ensures legal { is_legal seat.now ≡ true }
     ensures told { reply_seen result ≡ Refused (Form BadKind) }
 {
-    let _known = seat.seen();
+    let _legal = seat.seen();
     Reply::Refused(Refusal::Form(FormFault::BadKind))
 }
 

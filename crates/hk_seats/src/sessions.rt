@@ -4,8 +4,9 @@ ghost use Rattle.std.specs.Prelude.{◌≡◌, length, IfSome};
 ghost use mathlib.Core.List.{IsPrefix};
 ghost use Rattle.hk_seats.specs.Serving.{ServesHost};
 
-use hk_link::NodeSide;
-use hk_session::{Counted, Ended, serve};
+use hk_link_state::NodeSide;
+use hk_session::serve;
+use hk_session_parts::{Counted, Ended};
 use std::alloc::Global;
 use std::io::{Read, Write};
 

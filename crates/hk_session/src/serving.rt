@@ -124,7 +124,7 @@ pub fn serve_waiting<const LATEST: u8, R: Read, W: Write, H: Host, T: Waiter>(
     ensures reads { result ≢ ends.ReadFault → reader.new.faults ≡ 0 }
     ensures writes { result ≢ ends.WriteFault → writer.new.faults ≡ 0 }
 {
-    let _known = reader.calls();
+    let _in_range = reader.calls();
     let mut session: Session<LATEST> = Session::new(alloc);
     let mut buffer = [0; 65_536];
     for _ in 0..MOST_READS {

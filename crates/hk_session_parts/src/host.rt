@@ -2,7 +2,7 @@
 
 ghost use Rattle.std.specs.Prelude.{⊤};
 
-use hk_wire::{Reply, Request};
+use hk_messages::{Reply, Request};
 
 /// Who answers the requests of a session. A request that a host has no meaning for is refused `Form(BadKind)`, and changes
 /// nothing.

@@ -5,8 +5,10 @@ ghost use Rattle.hk_wire.specs.Pieces.{IsPlace};
 ghost use Rattle.hk_messages.specs.Replies.{reply_seen, reply_text};
 ghost use Rattle.hk_session_parts.specs.Said.{PutsPiece, refused_text, too_long};
 
+use hk_encodings::encode_reply;
+use hk_messages::{LaterReply, Reply};
 use hk_types::{FormFault, Refusal};
-use hk_wire::{LaterReply, Place, Reply, encode_piece, encode_reply};
+use hk_wire::{Place, encode_piece};
 use std::alloc::AllocError;
 
 /// The reply in place of one that has no encoding: `Refused` with 2, in its version.

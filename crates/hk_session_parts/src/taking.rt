@@ -3,8 +3,8 @@
 ghost use Rattle.std.specs.Prelude.{◌≡◌, OnErr};
 ghost use Rattle.hk_session_parts.specs.Sessions.{TakesIn};
 
+use hk_messages::{Request, RequestFeeder};
 use hk_types::{FormFault, Refusal};
-use hk_wire::{Request, RequestFeeder};
 use std::alloc::AllocError;
 
 /// Reads the next piece of the stream behind the requests that are there, and returns the fault that follows them, if one

@@ -87,7 +87,7 @@ impl ReplicaState {
     fn next_older_stays(&self, version: &VersionKey, time: Time) -> bool
         ensures { result ≡ spec.next_older_stays self.now time version.now }
     {
-        let _known = self.horizon();
+        let _lawful = self.horizon();
         let Some(chain) = self.facts.chain(version.table, version.key) else {
             return false;
         };

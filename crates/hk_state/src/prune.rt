@@ -31,7 +31,7 @@ impl ReplicaState {
         ensures below { time ≤ self.old.horizon → IsOk result }
         ensures stays { prune_touches_past self.old time ≡ false → AnswersStay self.old self.new }
     {
-        let _known = self.horizon();
+        let _lawful = self.horizon();
         self.raise_horizon(time)
     }
 

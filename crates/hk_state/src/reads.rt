@@ -8,8 +8,9 @@ ghost use Rattle.hk_store.specs.Indexed.{AreKeyed, AreTagged};
 ghost use Rattle.hk_store.specs.Reads.{facts_of_content};
 
 use crate::replica::ReplicaState;
+use hk_chains::{KeyIndex, TagIndex};
 use hk_facts::Chain;
-use hk_store::{Facts, KeyIndex, TagIndex};
+use hk_store::Facts;
 use hk_types::{Key, Table, Time};
 
 impl ReplicaState {

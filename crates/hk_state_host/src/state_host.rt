@@ -6,15 +6,16 @@ ghost use Rattle.hk_model.specs.Replica.Fragments.{cut};
 ghost use Rattle.hk_model.specs.Replica.Rules.{join_result, prune_result};
 ghost use Rattle.hk_state_host.specs.Steps.{since, fragment_reply, gathered, with_items, Counts, GivesAnswer, HandsOut, IsGiven, JoinsItems, MakesChange, PrunesTo, Step, Takes};
 
-use hk_delta::{Fragment, delta_since, join, join_items, whole_of};
+use hk_delta::{delta_since, join, join_items, whole_of};
+use hk_fragment::Fragment;
 use hk_log::Item;
 use hk_merge::merge;
+use hk_messages::{Reply, Request};
 use hk_model::Query;
 use hk_query::ask;
 use hk_session_parts::Host;
 use hk_state::{ReplicaState, front_of};
 use hk_types::{FormFault, LAST_OP, Refusal, Time};
-use hk_wire::{Reply, Request};
 use std::alloc::Global;
 use std::marker::Model;
 

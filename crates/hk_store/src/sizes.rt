@@ -1,5 +1,9 @@
 //! How many bytes an answer would take, before anything of it is made.
 
+ghost use Rattle.std.specs.Prelude.{◌≡◌};
+ghost use Rattle.hk_chains.specs.Reads.{rows_ranged};
+ghost use Rattle.hk_chains.specs.Sizes.{answer_size};
+
 use crate::facts::Facts;
 use hk_chains::{BESIDE_ROW, answer_bytes, row_bytes};
 use hk_types::{Key, Refusal, Table, Tag, Time};
@@ -36,9 +40,11 @@ impl Facts {
         Ok(bytes)
     }
 
-    /// How many bytes the rows of a table with keys from `low` to `high` that are visible at a time take in an answer, at most. It promises
-    /// nothing. Cost: O(log n + k · log n), k keys from low to high, n facts.
-    pub fn bytes_between(&self, table: Table, low: Key, high: Key, time: Time) -> u64 {
+    /// How many bytes the rows of a table with keys from `low` to `high` that are visible at a time take in an answer, or the greatest
+    /// number where that is no more. Cost: O(log n + k · log n), k keys from low to high, n facts.
+    pub fn bytes_between(&self, table: Table, low: Key, high: Key, time: Time) -> u64
+        ensures { result ≡ answer_size (rows_ranged self.now time table low high) }
+    {
         self.chains.bytes_between(table, low, high, time)
     }
 

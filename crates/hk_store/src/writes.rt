@@ -95,7 +95,7 @@ impl Facts {
             why ≡ (if conflicts_with_entry self.old entry then Conflict else Memory)) }
         ensures back { rolled_back undo.new self.new ≡ rolled_back undo.old self.old }
     {
-        let _known = entry.rows();
+        let _rows_rise = entry.rows();
         let time = entry.time();
         let (ends, rows) = entry.into_writes();
         let mut rows = VecDeque::from_vec(rows);

@@ -4,11 +4,12 @@ ghost use Rattle.std.specs.Prelude.{◌≡◌, ◌≢◌, ◌⊎◌, ◌≤◌, 
 ghost use Rattle.hk_session_parts.specs.Transcript.{fault_of};
 ghost use Rattle.hk_session_parts.specs.Sessions.{AnswersFirst, AppendsKept, Closes, ClosesBy, Continues, HasNoNext, IsStanding, IsWithoutMemory, Pauses, ReadIn, Takes, Turns, awaited, first_awaited, first_of};
 
+use hk_messages::{LaterRequest, Reply, Request, RequestFeeder};
 use hk_session_parts::sending::{put_piece, refuse};
 use hk_session_parts::taking::take_in;
 use hk_session_parts::{Ended, Host, Step};
 use hk_types::{FormFault, Refusal, Time};
-use hk_wire::{LaterRequest, Place, Reply, Request, RequestFeeder};
+use hk_wire::Place;
 use std::alloc::{AllocError, Global};
 use std::collections::VecDeque;
 use std::marker::Model;

@@ -31,7 +31,7 @@ pub fn fragment_law(fragment: &Fragment)
     ensures facts { of_facts (head_of fragment.now) (facts_of fragment.now) ≡ Ok fragment.now }
     ensures parts { IsOfItsParts fragment.now }
 {
-    let _known = fragment.facts();
+    let _facts_rise = fragment.facts();
 }
 
 /// Where a head and chunks make a fragment, it has that head, and its facts are those of the chunks, one after the other.

@@ -57,7 +57,7 @@ impl Split {
         ensures facts { self.now.given ++ self.now.left ≡ facts_of self.now.whole }
         ensures rises { rises (facts_of self.now.whole) ≡ true }
     {
-        let _known = self.whole.facts();
+        let _facts_rise = self.whole.facts();
         &self.whole
     }
 

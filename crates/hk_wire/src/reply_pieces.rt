@@ -6,7 +6,11 @@ ghost use Rattle.hk_messages.specs.LaterReplies as later;
 ghost use Rattle.hk_messages.specs.Replies as replies;
 ghost use Rattle.hk_wire.specs.Pieces as spec;
 
+use hk_answers::answer::{put_answer_front, put_answer_rows, put_rows_from, row_count};
+use hk_answers::told::put_page_front;
 use hk_encodings::reply_encoding::reply_len;
+use hk_fragment_bytes::FragmentHead;
+use hk_fragment_bytes::fragment_encoding::{put_facts_from, put_fragment_front};
 use hk_frames::{put_u32, put_u64};
 use hk_log::Version;
 use hk_message_head::head::put_plain_head;
@@ -14,10 +18,6 @@ use hk_messages::later_reply_encoding::put_later;
 use hk_messages::reply_body::{kind_of, put_body};
 use hk_messages::{LaterReply, Reply};
 use hk_types::{FormFault, Refusal, VersionKey};
-use hk_values::FragmentHead;
-use hk_values::answer::{put_answer_front, put_answer_rows, put_rows_from, row_count};
-use hk_values::fragment_encoding::{put_facts_from, put_fragment_front};
-use hk_values::told::put_page_front;
 use std::alloc::AllocError;
 
 /// More than so many bytes of facts or rows end a piece.
@@ -77,7 +77,7 @@ fn count_of(reply: &Reply) -> usize
 }
 
 /// Adds what the body of a reply of version 2 has before its facts or rows.
-#[tactic(auto, using(std::proofs::Common::append_assoc, hk_frames::proofs::Prefix::kept_all, hk_frames::proofs::Prefix::kept_before, hk_frames::proofs::Prefix::kept_both))]
+#[tactic(auto, using(hk_frames::proofs::Put::all))]
 fn put_later_front(out: &mut Vec<u8>, reply: &LaterReply) -> Result<(), AllocError>
     requires { later.keeps_rules (later.reply_seen reply.now) ≡ true }
     ensures ok { OnOk result (out.new.items ≡ out.old.items ++ spec.later_front (later.reply_seen reply.now)) }
@@ -113,7 +113,7 @@ fn put_front(out: &mut Vec<u8>, reply: &Reply) -> Result<(), AllocError>
 }
 
 /// Adds facts of a last chunk, and its head behind them, as `put_some` does.
-#[tactic(auto, using(hk_frames::proofs::Prefix::kept_all, hk_frames::proofs::Prefix::kept_both))]
+#[tactic(auto, using(hk_frames::proofs::Put::all))]
 fn put_last_some(
     out: &mut Vec<u8>,
     facts: &[(VersionKey, Version)],
@@ -172,7 +172,7 @@ fn put_some(out: &mut Vec<u8>, reply: &Reply, from: usize) -> Result<usize, Allo
 }
 
 /// Adds the first piece of a reply's frame, whose rest has so many bytes, and returns the number of the next fact or row.
-#[tactic(auto, using(hk_frames::proofs::Prefix::kept_all, hk_frames::proofs::Prefix::kept_before, hk_frames::proofs::Prefix::kept_both))]
+#[tactic(auto, using(hk_frames::proofs::Put::all))]
 fn put_first(out: &mut Vec<u8>, reply: &Reply, rest: u32) -> Result<usize, AllocError>
     requires len { rest ≡ length (replies.reply_rest (replies.reply_seen reply.now)) }
     requires rules { replies.keeps_rules (replies.reply_seen reply.now) ≡ true }

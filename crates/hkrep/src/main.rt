@@ -8,12 +8,14 @@ mod whole_file;
 use crate::watched::Watched;
 use crate::whole_file::WholeFile;
 use clap::Error;
-use hk_cli::{
-    Terminal, run_ask, run_at, run_explain, run_frames, run_front, run_items, run_order,
-    run_rewrite, run_serve, run_status, run_stay, run_world,
-};
+use hk_cli::{run_serve, run_stay};
 use hk_cli_arguments::read_call;
 use hk_cli_calls::{Alone, Call, Kept, NodeCall};
+use hk_cli_commands::{
+    run_ask, run_at, run_explain, run_frames, run_front, run_items, run_rewrite, run_status,
+    run_world,
+};
+use hk_cli_remote::{Terminal, run_order};
 use std::alloc::Global;
 use std::env::VarError;
 use std::fs::{File, Files};

@@ -1,6 +1,7 @@
 //! The library in four small programs: a replica that is fed and asked, two half-fed replicas joined, a primary, a running node.
 #![tactic(auto)]
 
+mod asking;
 mod merge;
 mod node;
 mod primary;

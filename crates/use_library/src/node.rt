@@ -1,7 +1,8 @@
 //! A running node that items are pushed to, and two readers that ask it and take no lock.
 
-ghost use Rattle.std.specs.Prelude.{◌≡◌};
+ghost use Rattle.std.specs.Prelude.{◌≡◌, true};
 
+use crate::asking::asked_twice;
 use hk_cli_lines::line_of;
 use hk_decode::decode_all;
 use hk_delta::{Fragment, fragment_of};
@@ -14,10 +15,12 @@ use std::sync::Wait;
 use std::thread::Threads;
 
 /// What a reader gets from table 1 at key 5 at time 1.
-fn row<J: NodeName>(alloc: Global, seat: &mut ReaderSeat<J>) -> Result<String, Refusal> {
+fn row<J: NodeName>(alloc: Global, seat: &mut ReaderSeat<J>) -> Result<String, Refusal>
+    requires { J.kind.guarded ≡ true }
+{
     let (table, key) = (Table::new(1), Key::new(5));
-    let line = match seat.ask(Time::new(1)?, &Query::Get { table, key }) {
-        Ok(answer) => line_of(alloc, &answer)?,
+    let line = match asked_twice(seat, Time::new(1)?, &Query::Get { table, key }) {
+        Ok((answer, _again)) => line_of(alloc, &answer)?,
         Err(why) => line_of(alloc, &why)?,
     };
     Ok(line)
@@ -30,7 +33,9 @@ fn asked<J: NodeName, R: Wait>(
     node: &Node<J, &R>,
     seats: &mut [ReaderSeat<J>],
     pushed: Fragment,
-) -> Result<String, Refusal> {
+) -> Result<String, Refusal>
+    requires { J.kind.guarded ≡ true }
+{
     let mut lines = String::new(alloc);
     if let Some(first) = seats.first_mut() {
         lines.push_str(row(alloc, first)?.as_str())?;
@@ -50,7 +55,8 @@ fn told<J: NodeName, R: Wait>(
     list: NewList,
     pushed: Fragment,
 ) -> Result<String, Refusal>
-    requires { list ≡ (J.book, J.kind) }
+    requires list { list ≡ (J.book, J.kind) }
+    requires guarded { list.1.guarded ≡ true }
 {
     let (node, mut seats) = start::<J, &R>(rt, alloc, list, 2)?;
     asked(rt, alloc, &node, &mut seats, pushed)
@@ -75,5 +81,5 @@ pub(crate) fn filled<R: Threads + Wait + Sync>(
 ) -> Result<String, Refusal> {
     let config = Config::new(7, 1)?;
     let pushed = fragment(rt, alloc, config, bytes)?;
-    told::<Brand, R>(rt, alloc, NewList::new(config), pushed)
+    told::<Brand, R>(rt, alloc, NewList::guarded(config), pushed)
 }

@@ -58,8 +58,8 @@ NODE: List[Tuple[Family, Callable[[Watched], Any]]] = [
             "vadungsil_links_opened_total",
             "counter",
             (
-                "Connections to the node that were opened. With --stay a node gives the slot of an ended connection out"
-                " again; without it each slot once."
+                "Connections to the node that were opened. 'hkrep node' gives the slot of an ended connection out"
+                " again; 'hkrep serve' each slot once."
             ),
         ),
         lambda it: it.meters.links()[0],

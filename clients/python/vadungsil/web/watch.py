@@ -1,6 +1,6 @@
 """One node as the web server sees it: one connection, shared by all who ask, and what the node reported last.
 
-A node without --stay gives out each of its connection slots once, so the connection is kept; where it breaks it is
+A node of `hkrep serve` gives out each of its connection slots once, so the connection is kept; where it breaks it is
 opened anew after a pause."""
 from __future__ import annotations
 

@@ -1,18 +1,21 @@
 //! The join of two views of a stream, and of all streams of a log.
 //!
+//! Numbers that go on from the own ones without a gap, as those of a log that comes in order, need no run: they raise the prefix.
+//!
 //! All growth comes first, on the way into the streams: room for the other's runs of numbers, which changes no number and so need not
 //! be taken back, and a mark of time 0 for each count that has to wait. What can't fail comes after it, on the way out. Where a growth
 //! is refused, the way out takes the marks back.
 
-ghost use Rattle.std.specs.Prelude.{◌≡◌, ◌≤◌, ◌^◌, ℕ, ◌≢◌, [], ◌∷◌, true, length, max, None, All, IfOk, IsOk, IsOkAnd, OnOk, OnErr};
+ghost use Rattle.std.specs.Prelude.{◌≡◌, ◌≤◌, ◌^◌, ℕ, ◌≢◌, [], ◌∷◌, true, length, max, None, All, IfSome, IfOk, IsOk, IsOkAnd, OnOk, OnErr};
 ghost use Rattle.std.specs.Ordering.{nat_cmp};
 ghost use Rattle.std.specs.BTreeMap as tree;
 ghost use Rattle.std.specs.FinMap as finmap;
+ghost use Rattle.std.specs.FinSet as set;
 ghost use Rattle.hk_numbers.specs.Runs.{numbers_seen, AreKept, HasRoomFor};
 ghost use Rattle.hk_model.specs.Replica.Streams.{all_together, together};
 ghost use Rattle.hk_marks.specs.Seen.{taken_seen, waiting_seen, IsExtra};
 ghost use Rattle.hk_marks.specs.Steps.{IsInOrder};
-ghost use Rattle.hk_marks.specs.Parts.{AddsCounts, HasCounts, RaisesMarks, RemovesCounts, both_taken, has_number, lacking_counts};
+ghost use Rattle.hk_marks.specs.Parts.{AddsCounts, GoesOn, HasCounts, RaisesMarks, RemovesCounts, both_taken, has_number, lacking_counts, taken_beside};
 
 use super::{Stream, close_up_to, grow, raise_waiting, settle};
 use hk_numbers::{make_room_for, settle_all};
@@ -73,6 +76,48 @@ fn greater(a: u64, b: u64) -> u64
     if a < b { b } else { a }
 }
 
+/// How far the numbers of one run at most go on from a prefix, where they leave no gap.
+fn reach_of(prefix: u64, runs: &BTreeMap<u64, u64>) -> Option<u64>
+    requires kept { AreKept runs.now }
+    requires prefix_most { prefix ≤ 2 ^ 62 }
+    ensures goes_on { IfSome result (λ reach. GoesOn prefix reach (numbers_seen runs.now)) }
+    ensures least { IfSome result (λ reach. prefix ≤ reach) }
+    ensures most { IfSome result (λ reach. reach ≤ 2 ^ 62) }
+{
+    let Some((first, end)) = runs.first_key_value() else {
+        return Some(prefix);
+    };
+    if runs.len() > 1 || *first > prefix + 1 {
+        return None;
+    }
+    Some(greater(prefix + 1, *end) - 1)
+}
+
+/// The numbers of another view beside those up to a prefix: where they go on without a gap, more up to one, and no extra ones.
+fn numbers_beside<'a>(
+    prefix: u64,
+    upto: u64,
+    others: &'a BTreeMap<u64, u64>,
+    none: &'a BTreeMap<u64, u64>,
+) -> (u64, &'a BTreeMap<u64, u64>)
+    requires kept { AreKept others.now }
+    requires prefix_most { prefix ≤ 2 ^ 62 }
+    requires most { upto ≤ 2 ^ 62 }
+    requires others { IsExtra upto (numbers_seen others.now) }
+    requires none { none.now.entries ≡ [] }
+    requires none_ordered { tree.IsOrdered nat_cmp none.now }
+    ensures same { taken_beside prefix result.0 result.1.now ≡ taken_beside prefix upto others.now }
+    ensures extras { IsExtra result.0 (numbers_seen result.1.now) }
+    ensures kept { AreKept result.1.now }
+    ensures most { result.0 ≤ 2 ^ 62 }
+    ensures in_order { numbers_seen others.now ≡ set.empty → numbers_seen result.1.now ≡ set.empty }
+{
+    match reach_of(greater(prefix, upto), others) {
+        Some(reach) => (reach, none),
+        None => (upto, others),
+    }
+}
+
 /// Adds the numbers 1 to `upto` and other extra ones, for whose runs there is room.
 fn take_numbers(
     prefix: &mut u64,
@@ -92,6 +137,7 @@ fn take_numbers(
     ensures kept { AreKept extra.new }
     ensures prefix_most { prefix.new ≤ 2 ^ 62 }
     ensures grows { prefix.old ≤ prefix.new }
+    ensures reaches { upto ≤ prefix.new }
 {
     settle_all(extra, others);
     *prefix = greater(*prefix, upto);
@@ -135,8 +181,11 @@ impl Stream {
         ensures later_err { OnErr result (later.new ≡ later.old) }
         ensures in_order { All IsInOrder (other.now ∷ others.now) → IsOk result }
     {
-        make_room_for(&mut self.extra, &other.extra)?;
-        let counts = missing_counts(alloc, self.prefix, &self.waiting, &other.waiting)?;
+        let none = BTreeMap::new(alloc);
+        let (upto, extra) = numbers_beside(self.prefix, other.prefix, &other.extra, &none);
+        make_room_for(&mut self.extra, extra)?;
+        let covered = greater(self.prefix, upto);
+        let counts = missing_counts(alloc, covered, &self.waiting, &other.waiting)?;
         insert_counts(&mut self.waiting, &counts)?;
         if later.len() > 0 {
             let (next, last) = later.split_at_mut(1);
@@ -145,12 +194,7 @@ impl Stream {
                 return Err(refused);
             }
         }
-        take_numbers(
-            &mut self.prefix,
-            &mut self.extra,
-            other.prefix,
-            &other.extra,
-        );
+        take_numbers(&mut self.prefix, &mut self.extra, upto, extra);
         close_up_to(&mut self.closed, other.closed);
         raise_marks(
             self.prefix,

@@ -8,6 +8,9 @@ use Rattle.hk_delta.proofs.GatheredWhole.{whole_faultless, whole_is}
 use Rattle.hk_state.proofs.WrongLogs.{count_streams}
 use Rattle.hk_delta.proofs.agreeing.agreed_so.Goals as goal
 
+pub returns-in-Some : goal.returns-in-Some
+returns-in-Some c = c.in-Some.ensures c.args.compared
+
 pub of_parts-requires-clause-many : goal.of_parts-requires-clause-many
 of_parts-requires-clause-many c =
     let s = c.args.state.now in

@@ -12,7 +12,7 @@ use Rattle.hk_delta.proofs.agreeing.learn_all.Goals as goal
 pub loop-item-init : goal.loop-item-init
 loop-item-init c =
     let s = c.args.state.now in
-    nothing_learnt s c.horizon-known.ensures.lawful (record { facts = c.new.result; got = c.in_ok-new.field-0; all = c.in_ok-copy.field-0 }) c.new.ensures
+    nothing_learnt s c.horizon-lawful.ensures.lawful (record { facts = c.new.result; got = c.in_ok-new.field-0; all = c.in_ok-copy.field-0 }) c.new.ensures
     (c.in_ok-new.ensures.ok ∙ ap (λ n. replicate n unknown) c.config.ensures.streams ∙ sym (none_told (length s.streams)))
     (c.in_ok-copy.ensures.ok ∙ c.got.ensures)
 

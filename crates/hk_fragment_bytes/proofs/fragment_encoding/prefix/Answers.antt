@@ -1,6 +1,6 @@
 use Rattle.std.proofs.Common.{sym}
 use Rattle.hk_model.specs.Replica.Streams.{stream_at}
-use Rattle.hk_fragment_bytes.proofs.StreamRead.{prefix_reached}
+use Rattle.hk_marks.proofs.Prefixes.{prefix_reached}
 use Rattle.hk_fragment_bytes.proofs.fragment_encoding.prefix.Goals as goal
 
 pub returns : goal.returns

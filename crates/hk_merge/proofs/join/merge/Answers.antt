@@ -8,5 +8,5 @@ pub returns : goal.returns
 returns c =
     let t = c.args.target.now in
     let p = c.args.peer.now in
-    let g : Merges t c.join_sent.new.target p c.join_sent.result = subst (λ (f : FragmentValue). Joins t c.join_sent.new.target f c.join_sent.result) (whole_is p c.horizon-known.ensures.lawful) c.join_sent.ensures in
+    let g : Merges t c.join_sent.new.target p c.join_sent.result = subst (λ (f : FragmentValue). Joins t c.join_sent.new.target f c.join_sent.result) (whole_is p c.horizon-lawful.ensures.lawful) c.join_sent.ensures in
     record { gives = g; represents = merges_of t c.join_sent.new.target p c.join_sent.result g }

@@ -8,7 +8,7 @@ use Rattle.hk_session.proofs.serving.serve_waiting.Goals as goal
 pub loop-init : goal.loop-init
 loop-init g c =
     let new = stands_start g.row.LATEST g.H.Host.may c.args.host.now c.new-session.result c.new-session.ensures in
-    (c.requires.reader, c.requires.writer, omega (arith, c.calls-known.ensures.bound), c.requires.ready, ([], Consumes-nil _, [], Appends-nil _, new.0, new.1))
+    (c.requires.reader, c.requires.writer, omega (arith, c.calls-in_range.ensures.bound), c.requires.ready, ([], Consumes-nil _, [], Appends-nil _, new.0, new.1))
 
 pub returns-then-count-eq0-clause-transcript : goal.returns-then-count-eq0-clause-transcript
 returns-then-count-eq0-clause-transcript g c =

@@ -6,7 +6,7 @@ use super::rows::all_at_last;
 use super::sizes::{agrees, wide_fragment};
 use super::*;
 use hk_delta::{join, whole_of};
-use hk_model::{Front, Page, StreamsTold};
+use hk_model::{Front, Page, PageQuery, StreamsTold};
 use hk_node::{Hold, NodeSizes, Receipt};
 use hk_state::ReplicaState;
 
@@ -323,10 +323,14 @@ impl<J: NodeName, S: Wait + Drop> Game<J, S> {
     }
 
     fn page(&mut self, table: u16, low: u64, most: u32, at: Time) -> Tells {
-        let last = Key::new(u64::MAX);
         told_page(
-            self.seat
-                .page(at, Table::new(table), Key::new(low), last, most),
+            self.seat.page(PageQuery {
+                time: at,
+                table: Table::new(table),
+                low: Key::new(low),
+                high: Key::new(u64::MAX),
+                most,
+            }),
         )
     }
 

@@ -14,4 +14,4 @@ pub returns-clause-fits : goal.returns-clause-fits
 returns-clause-fits c =
     subst (λ (h : HeadValue). HeadFits (wire_head_of h)) c.self.view_is
     (head_fits c.self.inside.config c.self.inside.base c.self.inside.horizon c.self.inside.got c.self.inside.count c.head_len-start.ensures.log c.head_len-start.ensures.streams.0 c.head_len-start.ensures.streams.1
-    c.head_len-start.ensures.base c.head_len-start.ensures.horizon c.number_len.ensures.fits c.self.invariant c.streams-known.ensures.lawful c.streams-known.ensures.numbered)
+    c.head_len-start.ensures.base c.head_len-start.ensures.horizon c.number_len.ensures.fits c.self.invariant c.streams-lawful.ensures.lawful c.streams-lawful.ensures.numbered)

@@ -1,6 +1,8 @@
-use Rattle.std.proofs.Common.{◌≡◌, ◌+◌, true, length-append, None, List, [], ◌∷◌, ◌++◌, length, sym, ◌∙◌, ap, subst, arith}
+use Rattle.std.proofs.Common.{◌≡◌, ◌+◌, true, length-append, None, All, List, [], ◌∷◌, ◌++◌, length, sym, ◌∙◌, ap, subst, arith}
+use Rattle.std.proofs.lemmas.List.Elements.{All-append, All-cons, All-nil}
 use Rattle.logbook.specs.Pages.{Book}
 use Rattle.hk_oplog.specs.declared.op.Op.{Op}
+use Rattle.hk_oplog.specs.Final.{IsFormed}
 use Rattle.hk_oplog.specs.Replay.{kind_of, replay, refusal_of, is_legal}
 use Rattle.hk_node.proofs.AddedOperation.{adds_moves, added}
 use Rattle.hk_oplog.proofs.LegalLists.{kind-snoc, legal-snoc}
@@ -37,4 +39,5 @@ invariant_of-result c =
       count ∙ ap length (sym here),
       subst (λ (l : List Op). is_legal l ≡ true) (sym here) (legal-snoc b.seen.log op c.self.invariant.1 may),
       c.again-kind.ensures ∙ c.self.invariant.2 ∙ sym (kind-snoc b.seen.log op c.self.invariant.1) ∙ ap kind_of (sym here),
+      subst (λ (l : List Op). All IsFormed l) (sym here) (All-append IsFormed b.seen.log (op ∷ []) c.self.invariant.3 (All-cons IsFormed op [] c.formed.ensures (All-nil IsFormed))),
     )

@@ -21,13 +21,13 @@ pub returns-else-look-clause-seen : goal.returns-else-look-clause-seen
 returns-else-look-clause-seen g c = subst (λ (l : List Op). IsPrefix l c.look.new.prefix.1) c.self.view_is c.look.ensures.seen
 
 pub returns-in-Err-clause-list : goal.returns-in-Err-clause-list
-returns-in-Err-clause-list g c = (c.len-known.ensures.legal, c.self.invariant.1)
+returns-in-Err-clause-list g c = (c.len-legal.ensures.legal, c.self.invariant.1)
 
 pub returns-in-Err-clause-seen : goal.returns-in-Err-clause-seen
 returns-in-Err-clause-seen g c = subst (λ (l : List Op). IsPrefix l c.self.inside.prefix.1) c.self.view_is (prefix_self c.self.inside.prefix.1)
 
 pub returns-in_default-clause-list : goal.returns-in_default-clause-list
-returns-in_default-clause-list g c = (c.len-known.ensures.legal, c.self.invariant.1)
+returns-in_default-clause-list g c = (c.len-legal.ensures.legal, c.self.invariant.1)
 
 pub returns-in_default-clause-seen : goal.returns-in_default-clause-seen
 returns-in_default-clause-seen g c = subst (λ (l : List Op). IsPrefix l c.self.inside.prefix.1) c.self.view_is (prefix_self c.self.inside.prefix.1)

@@ -12,22 +12,22 @@ pub returns-in_err-reading-clause-page : goal.returns-in_err-reading-clause-page
 returns-in_err-reading-clause-page g c = search rules
 
 pub returns-in_err-reading-clause-sound : goal.returns-in_err-reading-clause-sound
-returns-in_err-reading-clause-sound g c = page_sound _ g.J.NodeName.kind c.enter.new.self c.from_residual.result c.enter.ensures.list c.args.time c.args.table c.args.low c.args.high c.args.most (returns-in_err-reading-clause-page g c)
+returns-in_err-reading-clause-sound g c = page_sound _ g.J.NodeName.kind c.enter.new.self c.from_residual.result c.enter.ensures.list c.args.of.time c.args.of.table c.args.of.low c.args.of.high c.args.of.most (returns-in_err-reading-clause-page g c)
 
 pub returns-in_err-reading-clause-stays : goal.returns-in_err-reading-clause-stays
-returns-in_err-reading-clause-stays g c is = final_page g.J.NodeName.kind c.enter.new.self c.args.time c.args.table c.args.low c.args.high c.args.most c.from_residual.result c.enter.ensures.list is (returns-in_err-reading-clause-page g c)
+returns-in_err-reading-clause-stays g c is = final_page g.J.NodeName.kind c.enter.new.self c.args.of.time c.args.of.table c.args.of.low c.args.of.high c.args.of.most c.from_residual.result c.enter.ensures.list is (returns-in_err-reading-clause-page g c)
 
 pub returns-clause-page : goal.returns-clause-page
 returns-clause-page g c =
     let body : c.get.result.now.body ≡ replay c.leave.new.self = ap (λ (x : Replica). x.body) c.get.ensures ∙ c.in_ok-reading.ensures.body ∙ ap replay (sym c.leave.ensures) in
-    subst (λ (n : NodeContent). GivesSeen page_seen (node_page n c.args.time c.args.table c.args.low c.args.high c.args.most) c.page-page.result) body c.page-page.ensures
+    subst (λ (n : NodeContent). GivesSeen page_seen (node_page n c.args.of.time c.args.of.table c.args.of.low c.args.of.high c.args.of.most) c.page-page.result) body c.page-page.ensures
 
 pub returns-clause-sound : goal.returns-clause-sound
 returns-clause-sound g c =
     let list : IsListOf g.J.NodeName.kind c.leave.new.self = subst (IsListOf g.J.NodeName.kind) (sym c.leave.ensures) c.in_ok-reading.ensures.list in
-    page_sound _ g.J.NodeName.kind c.leave.new.self c.page-page.result list c.args.time c.args.table c.args.low c.args.high c.args.most (returns-clause-page g c)
+    page_sound _ g.J.NodeName.kind c.leave.new.self c.page-page.result list c.args.of.time c.args.of.table c.args.of.low c.args.of.high c.args.of.most (returns-clause-page g c)
 
 pub returns-clause-stays : goal.returns-clause-stays
 returns-clause-stays g c is =
     let list : IsListOf g.J.NodeName.kind c.leave.new.self = subst (IsListOf g.J.NodeName.kind) (sym c.leave.ensures) c.in_ok-reading.ensures.list in
-    final_page g.J.NodeName.kind c.leave.new.self c.args.time c.args.table c.args.low c.args.high c.args.most c.page-page.result list is (returns-clause-page g c)
+    final_page g.J.NodeName.kind c.leave.new.self c.args.of.time c.args.of.table c.args.of.low c.args.of.high c.args.of.most c.page-page.result list is (returns-clause-page g c)

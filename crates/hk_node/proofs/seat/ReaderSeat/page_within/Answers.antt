@@ -20,9 +20,9 @@ final_or_none kind ops t table low high most (Err why) of is h = tt
 pub returns-clause-page : goal.returns-clause-page
 returns-clause-page g c =
     let body : c.get.result.now.body ≡ replay c.leave.new.self = ap (λ (x : Replica). x.body) c.get.ensures ∙ c.in_ok-reading.ensures.body ∙ ap replay (sym c.leave.ensures) in
-    subst (λ (n : NodeContent). GivesPageOrNone n c.args.time c.args.table c.args.low c.args.high c.args.most c.page_within-page.result) body c.page_within-page.ensures
+    subst (λ (n : NodeContent). GivesPageOrNone n c.args.of.time c.args.of.table c.args.of.low c.args.of.high c.args.of.most c.page_within-page.result) body c.page_within-page.ensures
 
 pub returns-clause-stays : goal.returns-clause-stays
 returns-clause-stays g c is =
     let list : IsListOf g.J.NodeName.kind c.leave.new.self = subst (IsListOf g.J.NodeName.kind) (sym c.leave.ensures) c.in_ok-reading.ensures.list in
-    final_or_none g.J.NodeName.kind c.leave.new.self c.args.time c.args.table c.args.low c.args.high c.args.most c.page_within-page.result list is (returns-clause-page g c)
+    final_or_none g.J.NodeName.kind c.leave.new.self c.args.of.time c.args.of.table c.args.of.low c.args.of.high c.args.of.most c.page_within-page.result list is (returns-clause-page g c)

@@ -8,5 +8,5 @@ use Rattle.hk_oplog.proofs.body.Body.conflicts_with_state.Goals as goal
 pub returns : goal.returns
 returns c =
     c.conflicts_with.ensures
-    ∙ state_conflicts c.self.inside.state c.args.state.now c.facts.result.now c.facts-theirs.result.now c.horizon-known.ensures.lawful c.facts.ensures.rows c.facts.ensures.ends c.facts-theirs.ensures.rows c.facts-theirs.ensures.ends
+    ∙ state_conflicts c.self.inside.state c.args.state.now c.facts.result.now c.facts-theirs.result.now c.horizon-lawful.ensures.lawful c.facts.ensures.rows c.facts.ensures.ends c.facts-theirs.ensures.rows c.facts-theirs.ensures.ends
     ∙ ap (λ (n : NodeContent). contents_conflict n.content (cut c.args.state.now 0).content) c.self.view_is

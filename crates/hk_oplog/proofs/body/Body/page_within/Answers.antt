@@ -9,5 +9,5 @@ pub returns : goal.returns
 returns c =
     let b = c.self.inside in
     let now : NodeContent = record { content = b.state; holds = pins_of b.holds; damaged = b.damaged; guarded = b.guarded; hold_count = b.hold_count; op_count = b.op_count } in
-    subst (λ (n : NodeContent). GivesPageOrNone n c.args.time c.args.table c.args.low c.args.high c.args.most c.page_within.result) c.self.view_is
-    (gives_page_within now c.args.time c.args.table c.args.low c.args.high c.args.most c.args.looks c.page_within.result c.if-self.false c.page_within.ensures)
+    subst (λ (n : NodeContent). GivesPageOrNone n c.args.of.time c.args.of.table c.args.of.low c.args.of.high c.args.of.most c.page_within.result) c.self.view_is
+    (gives_page_within now c.args.of.time c.args.of.table c.args.of.low c.args.of.high c.args.of.most c.args.looks c.page_within.result c.if-self.false c.page_within.ensures)

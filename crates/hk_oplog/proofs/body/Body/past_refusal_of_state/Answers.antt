@@ -8,4 +8,4 @@ use Rattle.hk_oplog.proofs.body.Body.past_refusal_of_state.Goals as goal
 pub returns : goal.returns
 returns c =
     let now = c.args.self.now in
-    c.past_refusal.ensures ∙ ap (λ (f : FragmentValue). past_refusal now (join_touches_past now.content f)) (whole_is c.args.state.now c.horizon-known.ensures.lawful)
+    c.past_refusal.ensures ∙ ap (λ (f : FragmentValue). past_refusal now (join_touches_past now.content f)) (whole_is c.args.state.now c.horizon-lawful.ensures.lawful)

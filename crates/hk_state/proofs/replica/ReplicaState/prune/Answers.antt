@@ -6,4 +6,4 @@ pub returns-clause-represents : goal.returns-clause-represents
 returns-clause-represents c = prunes_of c.args.self.now c.raise_horizon.new.self c.args.time c.raise_horizon.result c.raise_horizon.ensures.gives
 
 pub returns-clause-stays : goal.returns-clause-stays
-returns-clause-stays c = prune_stays c.args.self.now c.raise_horizon.new.self c.args.time c.raise_horizon.result c.horizon-known.ensures.lawful c.raise_horizon.ensures.gives
+returns-clause-stays c = prune_stays c.args.self.now c.raise_horizon.new.self c.args.time c.raise_horizon.result c.horizon-lawful.ensures.lawful c.raise_horizon.ensures.gives

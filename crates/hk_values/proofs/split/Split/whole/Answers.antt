@@ -8,4 +8,4 @@ pub returns-clause-rises : goal.returns-clause-rises
 returns-clause-rises c =
     let f = c.self.inside.whole in
     rw (← c.self.view_is) (faultless_rise f.base f.content.horizon None (facts_of f)
-    (subst (λ (facts : List Known). facts_fault f.base f.content.horizon None facts ≡ None) c.facts-known.ensures.value c.facts-known.ensures.faultless))
+    (subst (λ (facts : List Known). facts_fault f.base f.content.horizon None facts ≡ None) c.facts-facts_rise.ensures.value c.facts-facts_rise.ensures.faultless))

@@ -1,0 +1,8 @@
+//! A connection's bytes: from those that its socket gave to those that it took.
+#![tactic(auto)]
+
+mod exchange;
+mod laws;
+
+pub use exchange::{Came, Exchange, How, LEAST_PIECE, LinkSession, Looked};
+pub use laws::served_law;
