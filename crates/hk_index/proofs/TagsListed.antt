@@ -1,5 +1,5 @@
 -- The keys that are listed by tag.
-use Rattle.std.proofs.Common.{◌≡◌, refl, sym, ap, ◌∙◌, ℕ, Bool, true, false, cond, ◌||◌, ◌==◌, List, [], ◌∷◌, ◌++◌, subst, Some, IsSome, nat_cmp, is_eq, eqb-true, eq-eqb, arith}
+use Rattle.std.proofs.Common.{◌≡◌, refl, sym, ap, ◌∙◌, ℕ, Bool, true, false, cond, ◌||◌, ◌==◌, List, [], ◌∷◌, ◌++◌, subst, Some, IsSome, nat_cmp, is_eq, Ordering, eqb-true, eq-eqb, arith}
 use Rattle.std.proofs.lemmas.Bool.Decides.{nat_tests}
 use Rattle.std.specs.Cmp.{IsTotalOrder, then_total, on_total, nat_cmp_total, Equal-is, tied_itself}
 use Rattle.std.specs.List.{dedup, dedup_from}
@@ -82,9 +82,9 @@ one_of_dedup (x ∷ xs) q = one_of_from xs x q
 pub tied_numbers : (x y : ℕ) → (x == y) ≡ eq_by_cmp nat_cmp x y
 tied_numbers x y = grind (arith, nat_tests)
 
-pub none_rise : IsStrictlySortedBy nat_cmp []
+pub none_rise : {A : Type 0} (cmp : A → A → Ordering) → IsStrictlySortedBy cmp []
 unfolding IsStrictlySortedBy
-none_rise = tt
+none_rise cmp = tt
 
 -- ---- a list that stays as it is
 

@@ -1,6 +1,7 @@
 //! Spans of time.
 
-ghost use Rattle.std.specs.Prelude.{◌≡◌};
+ghost use Rattle.std.specs.Prelude.{◌≡◌, ℕ, false};
+ghost use Rattle.std.specs.Bool.{OnTrue};
 ghost use Rattle.hk_index.specs.Timed.{is_in_span};
 
 /// The times from one on, up to another where there is one.
@@ -23,5 +24,15 @@ impl Span {
                 Some(until) => time <= until,
                 None => true,
             }
+    }
+
+    /// Whether no time is one of them. One without an end has some.
+    pub fn is_empty(&self) -> bool
+        ensures { OnTrue result ((time : ℕ) → is_in_span self.now time ≡ false) }
+    {
+        match self.until {
+            Some(until) => until < self.from,
+            None => false,
+        }
     }
 }

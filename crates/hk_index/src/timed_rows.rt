@@ -138,13 +138,16 @@ impl TimedRows {
     /// The rows that are there with a time of a span, and others besides, in rising order, each once.
     ///
     /// The only refusal is `Memory`. Cost: O(log n + l + k · log k), n rows with times, l of them late, which are at most a few or a quarter,
-    /// k with a time of the span.
+    /// k with a time of the span; O(1) where no time is of the span.
     pub fn rows(&self, alloc: Global, span: &Span) -> Result<Vec<RowKey>, Refusal>
         ensures ok { IfOk result (λ rows. ListsRows self.now span.now rows.items) }
         ensures err { IfErr result (λ why. why ≡ Memory) }
     {
-        let (ordered, late) = self.rows.split_at(self.ordered);
         let mut found = Vec::new(alloc);
+        if span.is_empty() {
+            return Ok(found);
+        }
+        let (ordered, late) = self.rows.split_at(self.ordered);
         push_rows(&mut found, within(ordered, span), span)?;
         push_rows(&mut found, late, span)?;
         Ok(rising(found))

@@ -22,4 +22,5 @@ pub mod Chains
 pub mod Past
 pub mod Turns
 pub mod Touches
+pub mod Lowered
 pub mod TouchingJoins
