@@ -79,17 +79,6 @@ fn print_ends<W: Write, E: Write>(ends: &[Ended], output: &mut Output<'_, W, E>)
     Ok(u8::from(!all_clean))
 }
 
-/// The list of a new node of this log, guarded or not.
-pub(crate) fn new_list(config: Config, is_guarded: bool) -> NewList
-    ensures { (result.1.config ≡ config) × (result.1.guarded ≡ is_guarded) }
-{
-    if is_guarded {
-        NewList::guarded(config)
-    } else {
-        NewList::new(config)
-    }
-}
-
 /// Serves connections to a node at a listener, and returns how each ended.
 fn served<J: NodeName + Send + Sync, R>(
     rt: &R,
@@ -205,7 +194,7 @@ pub fn run_serve<
 {
     let mut output = Output::new(alloc, writer, errors);
     tell_unproved(&mut output);
-    let list = new_list(config, is_guarded);
+    let list = NewList::of(config, is_guarded);
     match serve_list::<Brand, R, W, E>(rt, alloc, port, list, links, parts_bytes, &mut output) {
         Ok(status) => status,
         Err(stop) => output.stop(stop),

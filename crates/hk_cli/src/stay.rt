@@ -9,7 +9,7 @@ use crate::listening::{many_listener_of, most_files, port_of, socket_listener};
 use crate::memory::share_of_memory;
 use crate::metering::meters_of;
 use crate::outcome::Begun;
-use crate::serve::{UNPROVED, budget_of, new_list, stop_of, tell_unproved};
+use crate::serve::{UNPROVED, budget_of, stop_of, tell_unproved};
 use crate::starting::begin;
 use crate::texts::{Backlog, MOST_WAITING, Text, TextWriter, write_texts};
 use crossbeam_channel::{Sender, bounded};
@@ -609,7 +609,7 @@ where
     /// Starts a node of a log, and serves connections to it without an end.
     fn stay_printing<W: Write, E: Write>(&self, output: &mut Output<'_, W, E>) -> Result<(), Stop> {
         tell_if_unproved(&heads_of(self.rt, self.rt.alloc(), self.stay), output);
-        let list = new_list(self.config, self.stay.is_guarded);
+        let list = NewList::of(self.config, self.stay.is_guarded);
         self.stay_list::<Brand, W, E>(list, output)
     }
 }

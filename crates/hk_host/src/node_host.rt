@@ -105,7 +105,7 @@ impl<'a, J: NodeName, N: Wait + Drop, R: Threads + Wait + Sync> NodeHost<'a, J, 
     ) -> NodeHost<'a, J, N, R>
         ensures { result ≡ (All, seat) }
     {
-        NodeHost::with_way(rt, alloc, Way::Open(node), seat, None)
+        NodeHost::with_way(rt, alloc, Way::open(node), seat, None)
     }
 
     /// Returns the seat, with all that it has seen or got a receipt of.

@@ -62,7 +62,7 @@ impl<'a, J: NodeName, N: Wait + Drop> Door<'a, J, N> {
     ) -> Door<'a, J, N>
         ensures { result ≡ All }
     {
-        Door::new(Listener::Tcp(listener), Way::Open(node), links, budget)
+        Door::new(Listener::Tcp(listener), Way::open(node), links, budget)
     }
 
     /// The same at a Unix domain socket.
@@ -74,7 +74,7 @@ impl<'a, J: NodeName, N: Wait + Drop> Door<'a, J, N> {
     ) -> Door<'a, J, N>
         ensures { result ≡ All }
     {
-        Door::new(Listener::Unix(listener), Way::Open(node), links, budget)
+        Door::new(Listener::Unix(listener), Way::open(node), links, budget)
     }
 
     /// At most so many connections of this listener at once answer Items, Feed and the requests that change nothing; another request
@@ -87,7 +87,7 @@ impl<'a, J: NodeName, N: Wait + Drop> Door<'a, J, N> {
     ) -> Door<'a, J, N>
         ensures { result ≡ Feeds }
     {
-        Door::new(Listener::Tcp(listener), Way::Feeding(node), links, budget)
+        Door::new(Listener::Tcp(listener), Way::feeding(node), links, budget)
     }
 
     /// At most so many connections of this listener at once answer the requests that change nothing: Front, Delta, Full and Ask; of
@@ -100,7 +100,7 @@ impl<'a, J: NodeName, N: Wait + Drop> Door<'a, J, N> {
     ) -> Door<'a, J, N>
         ensures { result ≡ Readings }
     {
-        Door::new(Listener::Tcp(listener), Way::Reading, links, budget)
+        Door::new(Listener::Tcp(listener), Way::reading(), links, budget)
     }
 
     /// The same at a Unix domain socket.
@@ -111,7 +111,7 @@ impl<'a, J: NodeName, N: Wait + Drop> Door<'a, J, N> {
     ) -> Door<'a, J, N>
         ensures { result ≡ Readings }
     {
-        Door::new(Listener::Unix(listener), Way::Reading, links, budget)
+        Door::new(Listener::Unix(listener), Way::reading(), links, budget)
     }
 
     /// The same door, of whose connections each change that takes effect is reported too.

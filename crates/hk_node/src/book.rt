@@ -237,10 +237,7 @@ impl NewList {
         ensures log { result.1.config ≡ config }
         ensures open { result.1.guarded ≡ false }
     {
-        NewList::of(NodeKind {
-            config,
-            guarded: false,
-        })
+        NewList::of(config, false)
     }
 
     /// The list of a new guarded node of this log: a join or merge that conflicts with what it holds is refused, and
@@ -249,15 +246,18 @@ impl NewList {
         ensures log { result.1.config ≡ config }
         ensures guarded { result.1.guarded ≡ true }
     {
-        NewList::of(NodeKind {
-            config,
-            guarded: true,
-        })
+        NewList::of(config, true)
     }
 
-    fn of(kind: NodeKind) -> NewList
-        ensures { result.1 ≡ kind }
+    /// The list of a new node of this log, guarded or not, as the one or the other of these.
+    pub fn of(config: Config, is_guarded: bool) -> NewList
+        ensures log { result.1.config ≡ config }
+        ensures guarded { result.1.guarded ≡ is_guarded }
     {
+        let kind = NodeKind {
+            config,
+            guarded: is_guarded,
+        };
         let (counter, prefix) = open(kind.again());
         NewList {
             kind,

@@ -1,6 +1,7 @@
 //! What a connection may do at a node.
 
 ghost use Rattle.std.specs.Prelude.{◌≡◌};
+ghost use Rattle.hk_doors.specs.declared.passes.Passes.TheVariants.{All, Feeds, Readings};
 ghost use Rattle.hk_seats.specs.Ways.{way_passes};
 
 use hk_doors::Passes;
@@ -19,6 +20,27 @@ pub enum Way<'a, J: NodeName, N: Wait + Drop> {
 }
 
 impl<'a, J: NodeName, N: Wait + Drop> Way<'a, J, N> {
+    /// The way of who may do everything at a node.
+    pub fn open(node: &'a Node<J, N>) -> Way<'a, J, N>
+        ensures { way_passes result ≡ All }
+    {
+        Way::Open(node)
+    }
+
+    /// The way of who may send items to a node, and ask.
+    pub fn feeding(node: &'a Node<J, N>) -> Way<'a, J, N>
+        ensures { way_passes result ≡ Feeds }
+    {
+        Way::Feeding(node)
+    }
+
+    /// The way of who may ask.
+    pub fn reading() -> Way<'a, J, N>
+        ensures { way_passes result ≡ Readings }
+    {
+        Way::Reading
+    }
+
     /// Which requests it lets through.
     pub fn passes(&self) -> Passes
         ensures { result ≡ way_passes self.now }
@@ -35,8 +57,8 @@ impl<'a, J: NodeName, N: Wait + Drop> Way<'a, J, N> {
         ensures { way_passes result ≡ way_passes self.now }
     {
         match self {
-            Way::Open(node) => Way::Open(node),
-            Way::Feeding(node) => Way::Feeding(node),
+            Way::Open(same) => Way::Open(same),
+            Way::Feeding(same) => Way::Feeding(same),
             Way::Reading => Way::Reading,
         }
     }
