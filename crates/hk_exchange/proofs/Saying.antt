@@ -153,3 +153,14 @@ read_on may old piece ready s r k asked told bytes text says =
 pub read_off : {H : Type 0} (may : May H) (old : H) (piece ready : List ℕ) (s r : SessionValue) → r ≡ s → TakesOn may old old s r piece ready ready (steps.Ended Memory)
 read_off may old piece ready s r same asked told bytes text says =
     ([], [], bytes, refl, says_front (asked ++ []) (told ++ []) bytes (text ++ ready) s (nothing_more asked told bytes (text ++ ready) s says), inr refl)
+
+-- and once the next request was answered so
+pub says_next : (asked : List Request) (told : List Reply) (bytes text : List ℕ) (s : SessionValue) (request : Request) (rest : List Request) (reply : Reply)
+    → Says asked told bytes text s → s.requests ≡ request ∷ rest → s.kept ≡ None
+    → Says (asked ++ request ∷ []) (told ++ reply ∷ []) bytes text (record s { requests = rest; kept = Some reply; begun = 0 })
+says_next asked told bytes text s request rest reply h is free = record {
+  reads = subst (λ (l : List Request). ReadsRequests 2 bytes l s.left) (ap (λ (l : List Request). asked ++ l) is ∙ sym (append_assoc asked (request ∷ []) rest)) h.reads;
+  said = h.said;
+  order = ap (λ (l : List Reply). l ++ reply ∷ []) (h.order ∙ ap (λ (o : Option Reply). h.said ++ option_to_list o) free ∙ append-nil h.said);
+  appends = h.appends ∙ ap (λ (o : Option Reply). replies_bytes h.said ++ take s.begun (replies_bytes (option_to_list o))) free ∙ ap (λ (l : List ℕ). replies_bytes h.said ++ l) (take-nil s.begun);
+}

@@ -7,7 +7,7 @@ use Rattle.std.proofs.Math.Seq.{drop-length}
 use Rattle.hk_messages.specs.declared.request.Request.{Request}
 use Rattle.hk_messages.specs.declared.reply.Reply.{Reply}
 use Rattle.hk_session_parts.specs.Transcript.{May, Answers, IsPrefixOf, fault_of}
-use Rattle.hk_session_parts.specs.Sessions.{SessionValue, Takes, Closes, IsResting, Turns as SessionTurns}
+use Rattle.hk_session_parts.specs.Sessions.{AnswersFirst, SessionValue, Takes, Closes, IsResting, first_of, Turns as SessionTurns}
 use Rattle.hk_session_parts.specs.declared.ended.Ended.{Ended}
 use Rattle.hk_session_parts.specs.declared.step.Step.{Step}
 use Rattle.hk_session_parts.specs.declared.step.Step.TheVariants as steps
@@ -18,8 +18,8 @@ use Rattle.hk_doors.specs.Handing.{HandsOn, HandsOnFirst, Place, inside}
 use Rattle.hk_doors.proofs.Handing.{hands_nothing}
 use Rattle.hk_doors.proofs.HandingLaws.{joins_law}
 use Rattle.hk_pipes.specs.Pipes.{Outgoing, text_of}
-use Rattle.hk_exchange.specs.Exchanges.{ExchangeValue, GotSo, Says, Said, SaysSo, TakesOn, end_of, Goes, Went, Served, ServedLaw, Stands, Turns, Stays, start, waiting, behind_look}
-use Rattle.hk_exchange.proofs.Saying.{took, says_front, closed}
+use Rattle.hk_exchange.specs.Exchanges.{ExchangeValue, GotSo, Says, Said, SaysSo, TakesOn, Told, end_of, Goes, Went, Served, ServedLaw, Stands, Turns, Stays, start, waiting, behind_look}
+use Rattle.hk_exchange.proofs.Saying.{took, says_front, says_next, closed}
 
 -- ---- one that goes on is one that went
 
@@ -259,6 +259,31 @@ answered may old new passes v ready out w session step goes takes asked told sta
     let g = goes_of passes v ready asked told goes stands in
     let k = took may old new asked told (g.given ++ g.tail) (text_of v.out) [] ready out w step v.session session g.says takes in
     (k.0, k.1, k.3, answered_so passes v k.2 ready out session step asked k.0 told k.1 g k.4 (got_nothing step k.2 (g.given ++ g.tail) k.5))
+
+-- the first of two requests that are the same one
+abbrev or_first : Request → Option Request → Request
+or_first request None = request
+or_first request (Some first) = first
+
+told_says : (asked : List Request) (told : List Reply) (bytes text : List ℕ) (s after : SessionValue) (request : Request) (reply : Reply)
+    → Says asked told bytes text s → AnswersFirst s after reply → first_of s.requests ≡ Some request → s.kept ≡ None → Says (asked ++ request ∷ []) (told ++ reply ∷ []) bytes text after
+told_says asked told bytes text s after request reply h (inl (first, rest, is, free, so)) next none =
+    let same : first ≡ request = ap (or_first request) (sym (ap first_of is) ∙ next) in
+    subst (λ (t : SessionValue). Says (asked ++ request ∷ []) (told ++ reply ∷ []) bytes text t) (sym so)
+    (says_next asked told bytes text s request rest reply h (is ∙ ap (λ (q : Request). q ∷ rest) same) free)
+told_says asked told bytes text s after request reply h (inr (inl empty, same)) next none = absurd (true≢false (ap is_some (sym next ∙ ap first_of empty)))
+told_says asked told bytes text s after request reply h (inr (inr kept, same)) next none = absurd (kept none)
+
+-- the next request was answered
+pub told_next : (v : ExchangeValue) (session : SessionValue) (reply : Reply) → AnswersFirst v.session session reply → Told v (record v { session = session }) reply
+told_next v session reply answers request next passes ready asked told stands =
+    let w = record v { session = session } in
+    let g = goes_of passes v ready asked told next.0 stands in
+    let more = asked ++ request ∷ [] in
+    let all = told ++ reply ∷ [] in
+    subst (λ (e : Option Ended). MatchBool (is_some e) (Went passes w ready more all) (Goes passes w ready more all)) (sym next.0)
+    (goes_with passes v session v.out v.ended ready ready asked more told all g
+    (told_says asked told (g.given ++ g.tail) (text_of v.out ++ ready) v.session session request reply g.says answers next.1 next.2))
 
 -- ---- the end of its input
 

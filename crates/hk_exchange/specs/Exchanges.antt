@@ -1,12 +1,12 @@
 -- What a connection's socket took, by what it gave.
-use Rattle.std.specs.Prelude.{◌≡◌, ◌⊎◌, ℕ, ◌+◌, Bool, true, false, MatchBool, List, [], ◌∷◌, ◌++◌, length, drop, Option, None, Some, is_some, option_to_list, Result, Ok}
+use Rattle.std.specs.Prelude.{◌≡◌, ◌⊎◌, ◌<◌, ℕ, ◌+◌, ◌-◌, ◌||◌, min, nat_lt, Bool, true, false, MatchBool, List, [], ◌∷◌, ◌++◌, length, drop, Option, None, Some, is_some, option_to_list, Result, Ok}
 use Rattle.std.specs.Global.{Vec}
 use Rattle.hk_types.specs.declared.faults.FormFault.{FormFault}
 use Rattle.hk_messages.specs.declared.request.Request.{Request}
 use Rattle.hk_messages.specs.declared.reply.Reply.{Reply}
 use Rattle.hk_messages.specs.Requests.{ReadsRequests}
 use Rattle.hk_session_parts.specs.Transcript.{May, Answers, IsPrefixOf, closing_bytes, replies_bytes}
-use Rattle.hk_session_parts.specs.Sessions.{SessionValue, begun_bytes}
+use Rattle.hk_session_parts.specs.Sessions.{IsStanding, SessionValue, begun_bytes, first_of}
 use Rattle.hk_session_parts.specs.declared.step.Step.{Step}
 use Rattle.hk_session_parts.specs.declared.step.Step.TheVariants.{Ended as EndedSo}
 use Rattle.hk_session_parts.specs.declared.ended.Ended.{Ended}
@@ -132,6 +132,36 @@ Turns {H} may old new passes before ready after out =
     (asked : List Request) (told : List Reply) → Stands passes before ready asked told
     → (qs : List Request) × (rs : List Reply) × Answers may old qs rs new × Stands passes after out (asked ++ qs) (told ++ rs)
 
+-- ---- how many bytes it holds
+
+-- whether the connection is inside of a frame
+abbrev pub is_within : ExchangeValue → Bool
+is_within v = nat_lt 0 v.place.left || nat_lt 0 (length v.begun)
+
+-- so many came of the frame that the connection is inside of
+abbrev pub HoldsOfFrame : ExchangeValue → ℕ → Type 0
+HoldsOfFrame v count = (0 < v.place.left → count ≡ v.place.whole - v.place.left) × (v.place.left ≡ 0 → count ≡ length v.begun)
+
+-- and with those that wait so many, up to the greatest number of 64 bits
+abbrev pub HoldsAll : ExchangeValue → ℕ → Type 0
+HoldsAll v count = (came : ℕ) × HoldsOfFrame v came × (count ≡ min (came + length v.rest) 18446744073709551615)
+
+-- so many of replies are to be taken by its socket yet, with those of one that was begun
+abbrev pub HasStanding : ExchangeValue → ℕ → Type 0
+HasStanding v count = (more : ℕ) × IsStanding v.session more × (count ≡ min (length v.out.standing + more) 18446744073709551615)
+
+-- ---- what a host answers
+
+-- the first of the requests that it keeps is this one, and is the next to be answered
+abbrev pub IsNext : ExchangeValue → Request → Type 0
+IsNext v request = (v.ended ≡ None) × (first_of v.session.requests ≡ Some request) × (v.session.kept ≡ None)
+
+-- wherever a connection stood, it stands there with its next request answered so
+abbrev pub Told : ExchangeValue → ExchangeValue → Reply → Type 0
+Told before after reply =
+    (request : Request) → IsNext before request → (passes : Passes) (ready : List ℕ) (asked : List Request) (told : List Reply)
+    → Stands passes before ready asked told → Stands passes after ready (asked ++ request ∷ []) (told ++ reply ∷ [])
+
 -- the same where no request was answered
 abbrev pub Stays : Passes → ExchangeValue → List ℕ → ExchangeValue → List ℕ → Type 0
 Stays passes before ready after out = (asked : List Request) (told : List Reply) → Stands passes before ready asked told → Stands passes after out asked told
@@ -177,6 +207,13 @@ KeepsBy before then left after = (passes : Passes) (ready : List ℕ) → Stays 
 
 abbrev pub StaysBy : Exchange → List ℕ → Exchange → List ℕ → Type 0
 StaysBy before ready after out = (passes : Passes) → Stays passes (value_of before) ready (value_of after) out
+
+abbrev pub ToldBy : Exchange → Exchange → Reply → Type 0
+ToldBy before after reply = Told (value_of before) (value_of after) reply
+
+-- whatever is ready
+abbrev pub StaysReady : Exchange → Exchange → Type 0
+StaysReady before after = (passes : Passes) (ready : List ℕ) → Stays passes (value_of before) ready (value_of after) ready
 
 -- a socket took a front of what stands and of what is put in behind it
 abbrev pub SendsBy : {S : Type 0} → (S → Option (List ℕ)) → S → S → Exchange → Exchange → List ℕ → Type 0

@@ -1,8 +1,8 @@
 //! What is between a connection's socket and the host that answers it.
 
 ghost use Rattle.std.specs.Prelude.{◌≡◌, ◌<◌, ◌≤◌, ◌+◌, ℕ, List, [], ◌++◌, true, false, length, take, drop, None, Some, is_some, IfNone, IfOk, IfSome};
-ghost use Rattle.hk_session_parts.specs.Sessions.{AnswersFirst, first_of};
-ghost use Rattle.hk_exchange.specs.Exchanges.{KeepsBy, LeavesFrom, LooksBy, LooksFrom, ReceivesBy, SendsBy, StaysBy, TakesBy, TurnsAnyhow, TurnsBy, end_of, start, value_of};
+ghost use Rattle.hk_session_parts.specs.Sessions.{AnswersFirst};
+ghost use Rattle.hk_exchange.specs.Exchanges.{HasStanding, HoldsAll, HoldsOfFrame, IsNext, KeepsBy, LeavesFrom, LooksBy, LooksFrom, ReceivesBy, SendsBy, StaysBy, StaysReady, TakesBy, ToldBy, TurnsAnyhow, TurnsBy, end_of, is_within, start, value_of};
 
 use hk_doors::{FrameWatch, Passes, Taken, Then};
 use hk_messages::{Reply, Request};
@@ -221,7 +221,7 @@ impl Exchange {
 
     /// How its session ended, where it did. Cost: O(1).
     pub fn ended(&self) -> Option<Ended>
-        ensures { result ≡ self.now.ended }
+        ensures { result ≡ (value_of self.now).ended }
     {
         self.ended
     }
@@ -445,17 +445,21 @@ impl Exchange {
         self.read_on(how, out, host, socket, meters, piece)
     }
 
-    /// The first of the requests that the session keeps, where it keeps one. Cost: O(1).
+    /// The first of the requests that the session keeps, where it is the next to be answered: none where none waits, where a reply is
+    /// kept, and once it is over. Cost: O(1).
     pub fn first_request(&self) -> Option<&Request>
-        ensures { IfSome result (λ q. first_of (value_of self.now).session.requests ≡ Some q.now) }
+        ensures { IfSome result (λ request. IsNext (value_of self.now) request.now) }
     {
+        if self.ended.is_some() {
+            return None;
+        }
         self.session.first_request()
     }
 
-    /// Keeps a reply to that one, as `Session::put_reply`. Cost: O(1).
+    /// Keeps a reply to that one, as `Session::put_reply`: the next call appends it. Where there is none it is handed back. Cost: O(1).
     pub fn put_reply(&mut self, reply: Reply) -> Option<Reply>
+        ensures told { ToldBy self.old self.new reply }
         ensures answers { AnswersFirst (value_of self.old).session (value_of self.new).session reply }
-        ensures same { self.new ≡ record self.old { session = self.new.session } }
         ensures taken { IfNone result ((value_of self.new).session.kept ≡ Some reply) }
         ensures back { IfSome result (λ _. value_of self.new ≡ value_of self.old) }
     {
@@ -470,17 +474,23 @@ impl Exchange {
     }
 
     /// Whether it is inside of a frame. Cost: O(1).
-    pub fn is_within(&self) -> bool {
+    pub fn is_within(&self) -> bool
+        ensures { result ≡ is_within (value_of self.now) }
+    {
         self.watch.is_within()
     }
 
     /// How many bytes came of the frame that it is inside of. Cost: O(1).
-    pub fn held_of_frame(&self) -> u64 {
+    pub fn held_of_frame(&self) -> u64
+        ensures { HoldsOfFrame (value_of self.now) result }
+    {
         self.watch.held()
     }
 
     /// How many bytes stand before the session: those, and what waits. Cost: O(1).
-    pub fn held(&self) -> u64 {
+    pub fn held(&self) -> u64
+        ensures { HoldsAll (value_of self.now) result }
+    {
         self.watch.held().saturating_add(self.rest.len() as u64)
     }
 
@@ -492,7 +502,9 @@ impl Exchange {
     }
 
     /// The same, with those of a reply that are still to be appended. Cost: O(1).
-    pub fn standing(&self) -> u64 {
+    pub fn standing(&self) -> u64
+        ensures { HasStanding (value_of self.now) result }
+    {
         let standing = self.unwritten.len() as u64;
         standing.saturating_add(self.session.standing())
     }
@@ -518,8 +530,9 @@ impl Exchange {
 
     /// Ends it as it is. A session that had ended keeps how it ended. What is ready then isn't written.
     pub fn cut(&mut self, ended: Ended)
-        ensures over { is_some self.new.ended ≡ true }
-        ensures same { value_of self.new ≡ record (value_of self.old) { ended = self.new.ended } }
+        ensures stays { StaysReady self.old self.new }
+        ensures over { is_some (value_of self.new).ended ≡ true }
+        ensures same { value_of self.new ≡ record (value_of self.old) { ended = (value_of self.new).ended } }
     {
         if self.ended.is_none() {
             self.ended = Some(ended);
@@ -538,7 +551,7 @@ impl Exchange {
 
     /// Writes what stands, as far as the socket takes it now. Returns false where the socket failed. Cost: that of the writes.
     pub fn write<S: Write>(&mut self, socket: &mut S) -> bool
-        ensures stays { StaysBy self.old [] self.new [] }
+        ensures stays { StaysReady self.old self.new }
         ensures taken { SendsBy S.contents socket.old socket.new self.old self.new [] }
     {
         self.unwritten.write(socket)

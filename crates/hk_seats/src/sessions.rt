@@ -1,6 +1,6 @@
 //! Sessions over a host of a seat, and how they ended.
 
-ghost use Rattle.std.specs.Prelude.{◌≡◌, length, IfSome};
+ghost use Rattle.std.specs.Prelude.{◌≡◌, true, length, is_some, IfSome};
 ghost use mathlib.Core.List.{IsPrefix};
 ghost use Rattle.hk_seats.specs.Serving.{ServesHost};
 
@@ -33,7 +33,9 @@ pub fn serve_plain<H: NodeSide + Drop, I: Read + Drop, O: Write + Drop>(
 
 /// All ends, of so many sessions; none where one of them is missing. Cost: O(1).
 pub fn all_ends(ends: Vec<Ended>, count: usize) -> Option<Vec<Ended>>
-    ensures { IfSome result (λ all. length all.items ≡ count) }
+    ensures all { IfSome result (λ all. all.items ≡ ends.items) }
+    ensures whole { IfSome result (λ all. length all.items ≡ count) }
+    ensures some { length ends.items ≡ count → is_some result ≡ true }
 {
     if ends.len() == count {
         return Some(ends);

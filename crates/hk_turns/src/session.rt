@@ -182,11 +182,15 @@ impl<const LATEST: u8> Session<LATEST> {
         }
     }
 
-    /// The first of the requests that wait, where one does. Cost: O(1).
+    /// The first of the requests that wait, where it is the next to be answered: none where none waits, or where a reply is kept. Cost: O(1).
     pub fn first_request(&self) -> Option<&Request>
         ensures some { IfSome result (λ request. first_of self.now.requests ≡ Some request.now) }
-        ensures none { IfNone result (self.now.requests ≡ []) }
+        ensures free { IfSome result (λ _. self.now.kept ≡ None) }
+        ensures none { IfNone result ((self.now.requests ≡ []) ⊎ (self.now.kept ≢ None)) }
     {
+        if self.kept.is_some() {
+            return None;
+        }
         self.waiting.front()
     }
 
