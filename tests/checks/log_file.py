@@ -126,48 +126,51 @@ class Crash(BaseException):
 
 
 @contextlib.contextmanager
-def failing(at, error, calls=("write", "fdatasync")):
-    """Has the call of this number among these calls of the system raise an error, a write behind half of its bytes; which it was."""
-    count, found, own = [0], [], {name: getattr(os, name) for name in ("write", "fdatasync")}
-
-    def one(name):
-        def call(file, *data):
-            count[0] += name in calls
-            if count[0] != at or name not in calls:
-                return own[name](file, *data)
-            count[0] += 1
-            found.append(name)
-            if data:
-                own[name](file, data[0][:len(data[0]) // 2])
-            raise error
-        return call
-    for name in own:
-        setattr(os, name, one(name))
+def instead(one, *names):
+    """Has these calls of the system be what `one` makes of the name and of the system's own call."""
+    own = {name: getattr(os, name) for name in names}
+    for name, call in own.items():
+        setattr(os, name, one(name, call))
     try:
-        yield found
+        yield
     finally:
         for name, call in own.items():
             setattr(os, name, call)
 
 
 @contextlib.contextmanager
+def failing(at, error, calls=("write", "fdatasync")):
+    """Has the call of this number among these calls of the system raise an error, a write behind half of its bytes; which it was."""
+    count, found = [0], []
+
+    def one(name, own):
+        def call(file, *data):
+            count[0] += 1
+            if count[0] != at:
+                return own(file, *data)
+            count[0] += 1
+            found.append(name)
+            if data:
+                own(file, data[0][:len(data[0]) // 2])
+            raise error
+        return call
+    with instead(one, *calls):
+        yield found
+
+
+@contextlib.contextmanager
 def recorded():
     """What is written and synced meanwhile: (call, file) in their order."""
-    told, own = [], {name: getattr(os, name) for name in ("write", "fdatasync")}
+    told = []
 
-    def one(name):
+    def one(name, own):
         def call(file, *data):
-            given = own[name](file, *data)
+            given = own(file, *data)
             told.append((name, os.fstat(file).st_ino))
             return given
         return call
-    for name in own:
-        setattr(os, name, one(name))
-    try:
+    with instead(one, "write", "fdatasync"):
         yield told
-    finally:
-        for name, call in own.items():
-            setattr(os, name, call)
 
 
 def crashed(played):
@@ -782,24 +785,19 @@ def compacted():
 @contextlib.contextmanager
 def crashing(at):
     """Has the writer end at the call of this number, of those that change files or folders; whether it came to it."""
-    count, found, own = [0], [], {name: getattr(os, name) for name in ("rename", "fsync", "unlink", "write", "fdatasync")}
+    count, found = [0], []
 
-    def one(name):
+    def one(name, own):
         def call(*given):
             count[0] += 1
             if count[0] == at:
                 found.append(name)
             if count[0] >= at:      # also what it would still do where it is left by the error
                 raise Crash
-            return own[name](*given)
+            return own(*given)
         return call
-    for name in own:
-        setattr(os, name, one(name))
-    try:
+    with instead(one, "rename", "fsync", "unlink", "write", "fdatasync"):
         yield found
-    finally:
-        for name, call in own.items():
-            setattr(os, name, call)
 
 
 def compaction_crashes():
