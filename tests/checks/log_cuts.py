@@ -6,9 +6,10 @@ nothing that was acknowledged is lost, nothing is damaged in silence, and the ne
     log_cuts.py cuts 1000 7        so many cuts, of this seed: by hand
     log_cuts.py kills 1000 7       so many kills
 
-The writer and `connectors/file/follow` run with a library preloaded that notes what they do (tests/faults/noted_disk.c); of the notes
-tests/lib/noted_disk.py makes what the disk may have, wherever the power goes. The node is tests/lib/reference.py, and so is who judges the items.
-Prints a line for each check and ends with 'N passed, M failed'. Needs cc, and no program. Standard library only."""
+The writer and those who read its file, `connectors/file/follow` and `hkrep feed --follow` by turns, run with a library preloaded that notes what they do
+(tests/faults/noted_disk.c); of the notes tests/lib/noted_disk.py makes what the disk may have, wherever the power goes. The node is
+tests/lib/reference.py, and so is who judges the items. Prints a line for each check and ends with 'N passed, M failed'. Needs cc and bin/hkrep. Standard
+library only."""
 import argparse
 import contextlib
 import copy
@@ -28,7 +29,7 @@ import time
 ROOT = pathlib.Path(__file__).resolve().parents[2]
 sys.path[:0] = [str(ROOT / "tests" / "lib"), str(ROOT / "clients" / "python"), str(ROOT / "connectors" / "file"), str(ROOT / "connectors" / "common")]
 import reference
-from checks import differ, ended, guarded, report, skip
+from checks import differ, ended, guarded, is_built, report, skip
 from noted_disk import CUT, SENT, SYNCING, WRITTEN, Disk, Sent, frames_of, library, notes_in, noting, put_back
 from vadungsil import Broken, Done, Fragment, Front, LogFile, LogWriter, NotKept, NotWritten, Stream, encode, encode_reply
 from vadungsil.blocks import Cutter
@@ -38,7 +39,7 @@ from log_in_file import LogInFile
 from publishing import Publisher
 
 LOG, CUTS, KILLS, LIMIT = 9, 100, 100, 120
-FOLLOW = ROOT / "connectors" / "file" / "follow"
+FOLLOW, PROGRAM = ROOT / "connectors" / "file" / "follow", ROOT / "bin" / "hkrep"
 # of each run so many cuts are looked at
 EACH = 10
 FILE, ACKNOWLEDGED = "a.log", "acknowledged"
@@ -252,12 +253,27 @@ def follow(path, port, said):
     runpy.run_path(str(FOLLOW), run_name="__main__")
 
 
+def feed(path, port, said):
+    """The same by the program, in the place of this process; unlike the other it asks for a file that is there."""
+    while not path.exists():
+        time.sleep(0.001)
+    with open(said, "w", encoding="utf-8") as file, open(os.devnull, "w", encoding="utf-8") as nothing:
+        os.dup2(file.fileno(), 2)
+        os.dup2(nothing.fileno(), 1)
+    os.execv(PROGRAM, [str(PROGRAM), "feed", "--port", str(port), "--follow", str(path)])
+
+
+# who reads a file and hands it on
+FOLLOWERS = (follow, feed)
+
+
 class Run:
     """A writer, a follower of its file and a node, from their begin until the writer has ended and the node has all that the file has: what they noted, and
-    what was there before. `fails` is how the writer's disk fails, `lies` of which files the follower syncs nothing."""
+    what was there before. `fails` is how the writer's disk fails, `lies` of which files the follower syncs nothing, `by` who the follower is."""
 
-    def __init__(self, folder, sync, seed, count=40, lies=None, **fails):
-        self.name, self.sync, self.seed, self.count, self.lies, self.fails = f"{sync} {seed}", sync, seed, count, lies, fails
+    def __init__(self, folder, sync, seed, count=40, lies=None, by=follow, **fails):
+        self.name, self.sync, self.seed, self.count, self.lies, self.fails = f"{by.__name__} {sync} {seed}", sync, seed, count, lies, fails
+        self.by = by
         self.folder, self.noted, self.said = folder / self.name, folder / f"{self.name}.notes", folder / f"{self.name}.said"
         self.file = self.folder / FILE
         self.folder.mkdir()
@@ -295,7 +311,7 @@ class Run:
 
     def follow(self, port):
         noting(self.folder, self.noted, **({} if self.lies is None else {"lies": self.lies}))
-        follow(self.file, port, self.said)
+        self.by(self.file, port, self.said)
 
     def serve(self, replica, children):
         """Answers until the writer has ended, whom it takes out of the children, and the node has all."""
@@ -397,7 +413,7 @@ def cuts(folder, count=CUTS, seed=1):
     """Wherever the power goes, the file has what nodes were handed and what was acknowledged, and the next writer goes on behind it."""
     problems = []
     for number in range(0, count, EACH):
-        run = Run(folder, SYNCS[number // EACH % len(SYNCS)], seed * 1_000_000 + number // EACH)
+        run = Run(folder, SYNCS[number // EACH % len(SYNCS)], seed * 1_000_000 + number // EACH, by=FOLLOWERS[number // EACH % len(FOLLOWERS)])
         for each in range(number, min(number + EACH, count)):
             problems += one_cut(run, each, random.Random(f"{seed} {each}"))
         shutil.rmtree(run.folder)
@@ -409,33 +425,38 @@ def turns_in(notes):
     return [it for it in notes if it.what in (WRITTEN, CUT, SYNCING) and it.name != ACKNOWLEDGED and it.process == notes[0].process]
 
 
-def unsynced_line(folder, lies):
+def unsynced_line(folder, by, lies):
     """What is lost behind the end of a writer that is killed between the line of its last block and its sync, where a follower syncs nothing of such files,
     or all."""
     count, seed, sums = 6, 20, f"{FILE}.sums"
-    dry = Run(folder, "each", seed, count)
+    dry = Run(folder, "each", seed, count, by=by)
     shutil.rmtree(dry.folder)
     at = max(at for at, it in enumerate(turns_in(dry.notes), 1) if (it.what, it.name) == (SYNCING, sums))
-    run = Run(folder, "each", seed, count, lies, at=at, how="end")
+    run = Run(folder, "each", seed, count, lies, by, at=at, how="end")
     shutil.rmtree(run.folder)
     return goes_on(Left(run.begin, run.notes, random.Random(1), "nothing"), "each", seed, folder / "behind")
 
 
 def liars(folder):
     """What a follower hands on of a writer that is killed before it synced its last line stays, and the same check sees one that doesn't sync both files."""
-    pairs = [("a follower that syncs both", unsynced_line(folder, None), []), ("one that doesn't sync the checksums", bool(unsynced_line(folder, ".sums")), True)]
-    run = Run(folder, "never", 11, lies="")
-    left = Left(run.begin, run.notes, random.Random(1), "nothing")
-    report("a follower that doesn't sync is seen", differ([*pairs, ("one that syncs nothing", bool(lost("a node was handed", left.handed, entries_in(left.files.get(FILE, b""))[0])), True)]))
+    pairs = []
+    for by in FOLLOWERS:
+        run = Run(folder, "never", 11, lies="", by=by)
+        left = Left(run.begin, run.notes, random.Random(1), "nothing")
+        shutil.rmtree(run.folder)
+        pairs += [(f"{by.__name__} that syncs both", unsynced_line(folder, by, None), []),
+                  (f"{by.__name__} that doesn't sync the checksums", bool(unsynced_line(folder, by, ".sums")), True),
+                  (f"{by.__name__} that syncs nothing", bool(lost("a node was handed", left.handed, entries_in(left.files.get(FILE, b""))[0])), True)]
+    report("a follower that doesn't sync is seen", differ(pairs))
 
 
-def fed_until_end(folder, **fails):
+def fed_until_end(folder, by, **fails):
     """The status of a follower of the file there, whose disk fails so; what it said last, and whether a node took items of it."""
     replica, said, until = Replica(lambda number: None), folder.parent / f"{folder.name}.said", time.monotonic() + LIMIT
 
     def fed():
         noting(folder, folder.parent / f"{folder.name}.notes", **fails)
-        follow(folder / FILE, replica.door.getsockname()[1], said)
+        by(folder / FILE, replica.door.getsockname()[1], said)
     child = forked(fed)
     try:
         while not os.waitid(os.P_PID, child, os.WEXITED | os.WNOHANG | os.WNOWAIT) and not replica.operations:
@@ -455,9 +476,10 @@ def failing_syncs(folder):
     place.mkdir()
     with opened(place / FILE, "each", 0) as log:
         log.commit([(1, 1, 0, b"kept")])
-    said = f"follow: {place / FILE}: what was read can't be brought to the disk ([Errno 5] Input/output error), and is not handed on. {SEE}"
-    pairs = [(f"sync {at}", fed_until_end(place, at=at, how="fault"), (1, [said], False)) for at in (1, 2, 3)]
-    pairs.append(("none fails", fed_until_end(place), (-signal.SIGKILL, [], True)))
+    said = {follow: f"follow: {place / FILE}: what was read can't be brought to the disk ([Errno 5] Input/output error), and is not handed on. {SEE}",
+            feed: f"stopped: byte {(place / FILE).stat().st_size} of {place / FILE}: what was read can't be brought to the disk, and isn't sent: {SEE[0].lower()}{SEE[1:]}"}
+    pairs = [(f"{by.__name__}, sync {at}", fed_until_end(place, by, at=at, how="fault"), (1, [said[by]], False)) for by in FOLLOWERS for at in (1, 2, 3)]
+    pairs += [(f"{by.__name__}, none fails", fed_until_end(place, by), (-signal.SIGKILL, [], True)) for by in FOLLOWERS]
     report("a follower whose disk fails hands on nothing of it", differ(pairs))
 
 
@@ -523,6 +545,8 @@ CHECKS = (cuts, liars, failing_syncs, kills)
 def main():
     if not shutil.which("cc"):
         skip("cc is not installed: no log is cut off")
+        return ended()
+    if not is_built(PROGRAM):
         return ended()
     folder = pathlib.Path(tempfile.mkdtemp(prefix="log_cuts")).resolve()
     try:

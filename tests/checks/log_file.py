@@ -5,7 +5,7 @@ replica made from the pages, beside a plain program that keeps all rows of each 
 
     log_file.py [STORY ..]
 
-Prints a line for each check and ends with 'N passed, M failed'. Needs bin/hkrep for the last one. Standard library only."""
+Prints a line for each check and ends with 'N passed, M failed'. Needs bin/hkrep for the last four. Standard library only."""
 import asyncio
 import contextlib
 import errno
@@ -957,13 +957,155 @@ def compacted_nodes(it, port):
     return pairs
 
 
-STORIES = (a_log, retired, promises, threads, beats, refused, two_writers, torn, trusted, full, limited, not_synced, of_a_thread, interrupted, moved, unread, crashes, identities, forks, indexes, compacted, compaction_crashes, followed_on, asynchronous, nodes)
+# ---------------------------------------------------------------- hkrep feed --follow
+
+class Feeding:
+    """`hkrep feed --follow` of a log to a node, which is ended when the block is left."""
+
+    def __init__(self, name, port, *more):
+        words = [str(PROGRAM), "feed", "--port", str(port), "--follow", str(path_of(name)), *more]
+        self.child = subprocess.Popen(words, stdin=subprocess.DEVNULL, stdout=subprocess.PIPE, stderr=subprocess.PIPE, text=True)
+
+    def ends(self):
+        """Its status, what it printed, and the last line that it told, once it has ended."""
+        printed, told = self.child.communicate(timeout=LIMIT)
+        return self.child.returncode, printed, told.splitlines()[-1:]
+
+    def __enter__(self):
+        return self
+
+    def __exit__(self, *_):
+        self.child.kill()
+        self.child.wait()
+        for it in (self.child.stdout, self.child.stderr):
+            it.close()
+
+
+def prefix_of(port, wanted=0):
+    """Up to which entry a node has all, once that is this one, or the time is up."""
+    until = time.monotonic() + LIMIT
+    with va.Node(port) as asked:
+        while (prefix := asked.streams()[0].prefix) < wanted and time.monotonic() < until:
+            time.sleep(0.01)
+    return prefix
+
+
+def laid(name, data, sums):
+    """A log in a file that has this."""
+    path_of(name).write_bytes(data)
+    path_of(f"{name}.sums").write_bytes(sums)
+
+
+def feeding():
+    """A node that `hkrep feed --follow` feeds has the rows of each time, also behind openings and compactions; it goes on until it is ended, or the node is."""
+    it, pairs = grown("feeding.log"), []
+    with node_of(LOG) as port, Feeding(it.name, port) as fed:
+        for turn in range(4):
+            it.commit({turn: b"more"}, [turn + 1])
+            pairs.append((f"turn {turn}", prefix_of(port, it.log.number(1)), it.log.number(1)))
+            if turn % 2:
+                it.again()
+            else:
+                it.log.compact(31 + turn)
+        with Feeding(it.name, port, "--messages", "2", "--batch", "3") as second:
+            it.commit({1: b"last"})
+            pairs += [("the last one", prefix_of(port, it.log.number(1)), it.log.number(1)), ("the rows", wrong_in(port, it.at), [])]
+            for each in (fed, second):
+                each.child.send_signal(signal.SIGINT)
+                pairs.append(("ended", each.ends(), (-signal.SIGINT, "", [])))
+    begins = int.from_bytes(path_of(it.name).read_bytes()[16:24], "big")
+    line = f"stopped: entries 1 to {begins - 1} are no longer in the log, and the node lacks them: fill it from another node (hkrep pull), or from a save of one (hkrep load)"
+    with node_of(LOG) as port, Feeding(it.name, port) as fed:
+        pairs += [("a new node", fed.ends(), (1, "", [line])), ("has nothing", prefix_of(port), 0)]
+    it.log.close()
+    whole = grown("feeding whole.log")
+    whole.log.close()
+    with node_of(LOG) as port:
+        fed = Feeding(whole.name, port)
+        pairs.append(("another one", prefix_of(port, whole.kept[-1]), whole.kept[-1]))
+    with fed:       # the node is gone, and nothing is written
+        status, printed, _ = fed.ends()
+        pairs.append(("without the node", (status, re.sub("[0-9]+", "N", printed)), (1, "refused N\n")))
+    other = grown("feeding other.log")
+    other.log.close()
+    with node_of(LOG) as port, Feeding(whole.name, port) as fed:
+        pairs.append(("before another comes", prefix_of(port, whole.kept[-1]), whole.kept[-1]))
+        path_of(whole.name).unlink()
+        for suffix in (".sums", ""):
+            os.replace(path_of(f"{other.name}{suffix}"), path_of(f"{whole.name}{suffix}"))
+        pairs.append(("another one of this id in its place", fed.ends()[:2], (1, "refused 23\n")))
+    report("hkrep feed --follow", differ(pairs))
+
+
+def feeding_torn():
+    """What has no whole line yet isn't sent, and is once it has; the same of a line that the disk lost a part of."""
+    it, pairs = written("whole fed.log", *[bytes([number]) * 50 for number in range(9)]), []
+    data, sums = files(it.name)
+    lines = sums.splitlines(True)
+    ends, count = [int(line.split()[0]) for line in lines], len(lines) - 3
+    laid("torn fed.log", data[:ends[count]], b"".join(lines[:count]))
+    has = int(lines[count - 1].split()[1])
+    with node_of(LOG) as port, Feeding("torn fed.log", port) as fed:
+        path, path_of_sums = path_of("torn fed.log"), path_of("torn fed.log.sums")
+        for told, text in (("without a line", b""), ("half of a line", lines[count][:40]), ("a part is lost", lines[count][:40] + bytes(20) + b"\n"), ("a line without its end", lines[count][:-1])):
+            path_of_sums.write_bytes(b"".join(lines[:count]) + text)
+            pairs.append((told, prefix_of(port, has), has))
+            time.sleep(0.1)
+            pairs.append((f"{told}, later", prefix_of(port), has))
+        path_of_sums.write_bytes(b"".join(lines[:count + 1]))
+        pairs.append(("a line", prefix_of(port, has + 1), has + 1))
+        with open(path, "ab") as file, open(path_of_sums, "ab") as kept:
+            file.write(data[ends[count]:])
+            kept.write(b"".join(lines[count + 1:]))
+        pairs += [("all", prefix_of(port, it.kept[-1]), it.kept[-1]), ("it goes on", fed.child.poll(), None)]
+    report("hkrep feed --follow of what is torn", differ(pairs))
+
+
+def unfed_cases():
+    """What stands there, up to which entry it is sent, what is printed, and the words."""
+    whole = written("whole unfed.log", *[b"x" * 4000] * 40)
+    data, sums = files(whole.name)
+    lines = sums.splitlines(True)
+    ends, stopped = [0, *(int(line.split()[0]) for line in lines)], "stopped: byte {end} of {path}: "
+    here = len(ends) // 2
+    end, has = ends[here], int(lines[here - 1].split()[1])
+    other = data[:end + 100] + bytes([data[end + 100] ^ 1]) + data[end + 101:]
+    sum_of = lambda line: line[:-2] + bytes([line[-2] ^ 1]) + line[-1:]
+    of = lambda name, *what: laid(name, *what)
+    yield "no file", lambda name: None, 0, "", "stopped: can't follow, with its FILE.sums, the file {path}: No such file or directory (os error 2)"
+    yield "without checksums", lambda name: path_of(name).write_bytes(data), 0, "", "stopped: can't follow, with its FILE.sums, the file {path}: No such file or directory (os error 2)"
+    yield "another byte", lambda name: of(name, other, sums), has, "refused 91\n", stopped.replace("{end}", str(end)) + "the block that begins there has another checksum than FILE.sums says: it is corrupt"
+    yield "another checksum", lambda name: of(name, data, b"".join([*lines[:here], sum_of(lines[here]), *lines[here + 1:]])), has, "refused 91\n", stopped.replace("{end}", str(end)) + "the block that begins there has another checksum than FILE.sums says: it is corrupt"
+    yield "no line", lambda name: of(name, data, b"".join([*lines[:here], b"12 a line of a reader\n", *lines[here + 1:]])), has, "refused 91\n", stopped.replace("{end}", str(end)) + "FILE.sums has a line that is none of a block: it is corrupt"
+    yield "a line without an end", lambda name: of(name, data, b"".join([*lines[:here], b"1" * 200])), has, "refused 91\n", stopped.replace("{end}", str(end)) + "FILE.sums has a line that is none of a block: it is corrupt"
+    yield "cut", lambda name: of(name, data[:end + 100], sums), has, "refused 91\n", stopped.replace("{end}", str(end)) + "the file ends before the block does that begins there: it lost its tail"
+    yield "older checksums", lambda name: of(name, data, b"".join(lines[:here])), has, "refused 91\n", stopped.replace("{end}", str(end)) + "more stands there, behind the last checksum, than the one block that a writer leaves: FILE.sums is older, or another file's"
+    yield "empty checksums", lambda name: of(name, data, b""), 0, "refused 91\n", stopped.replace("{end}", "0") + "more stands there, behind the last checksum, than the one block that a writer leaves: FILE.sums is older, or another file's"
+    yield "of another log", lambda name: va.LogFile(path_of(name), LOG + 1, clock=False).close(), 0, "refused 20\n", None
+
+
+def unfed():
+    """A file that isn't there, without its checksums, damaged or of another log ends `hkrep feed --follow` with 1 and a line; what stands before is sent."""
+    pairs = []
+    for number, (told, make, has, printed, line) in enumerate(unfed_cases()):
+        name = f"unfed{number}.log"
+        make(name)
+        with node_of(LOG) as port, Feeding(name, port) as fed:
+            status, out, words = fed.ends()
+            pairs += [(told, (status, out, prefix_of(port)), (1, printed, has))]
+            pairs += [(f"{told}: its words", words, [line.replace("{path}", str(path_of(name)))])] if line else []
+    report("hkrep feed --follow of no log", differ(pairs))
+
+
+STORIES = (a_log, retired, promises, threads, beats, refused, two_writers, torn, trusted, full, limited, not_synced, of_a_thread, interrupted, moved, unread, crashes, identities, forks, indexes, compacted, compaction_crashes, followed_on, asynchronous, nodes, feeding, feeding_torn, unfed)
+# those that need the program
+WITH_PROGRAM = (nodes, feeding, feeding_torn, unfed)
 
 
 def main(words):
     start = time.monotonic()
     for story in STORIES:
-        if (not words or story.__name__ in words) and (story is not nodes or is_built(PROGRAM)):
+        if (not words or story.__name__ in words) and (story not in WITH_PROGRAM or is_built(PROGRAM)):
             guarded(story)
     print(f"logs of a writer: {time.monotonic() - start:.1f} s")
     return ended()

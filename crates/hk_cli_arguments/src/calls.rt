@@ -257,10 +257,11 @@ fn prune_order(matches: &ArgMatches<'_>) -> Option<Order> {
     })
 }
 
-fn feed_order(matches: &ArgMatches<'_>) -> Order {
+fn feed_order(matches: &ArgMatches<'_>, follows: bool) -> Order {
     Order::Feed {
         batch: batch_of(matches),
         with_second: is_second(matches),
+        follows,
     }
 }
 
@@ -272,7 +273,6 @@ fn order_of(form: CommandForm, matches: &ArgMatches<'_>) -> Option<Order> {
         CommandForm::Load => Some(Order::Load),
         CommandForm::Pull => Some(Order::Pull),
         CommandForm::Prune => prune_order(matches),
-        CommandForm::Feed => Some(feed_order(matches)),
         _other => None,
     }
 }
@@ -303,6 +303,21 @@ fn save_call<'a>(matches: &ArgMatches<'a>, named: Option<&'a str>) -> Option<Cal
                 is_forced: has_flag(matches, "force"),
             },
         )),
+        None => Some(Call::Node(call)),
+    }
+}
+
+/// The call of `feed`: of standard input, or of a log in a file.
+fn feed_call<'a>(matches: &ArgMatches<'a>, named: Option<&'a str>) -> Option<Call<'a>> {
+    let name = matches.get_str("follow");
+    let call = NodeCall {
+        place: place_of(matches, named)?,
+        source: None,
+        limits: limits_of(matches, 0),
+        order: feed_order(matches, name.is_some()),
+    };
+    match name {
+        Some(name) => Some(Call::Follow(call, name)),
         None => Some(Call::Node(call)),
     }
 }
@@ -351,6 +366,7 @@ pub(crate) fn call_of<'a>(
         CommandForm::Rewrite => Some(Call::Alone(Alone::Rewrite)),
         CommandForm::World => world_call(matches),
         CommandForm::Save => save_call(matches, named),
+        CommandForm::Feed => feed_call(matches, named),
         CommandForm::Explain => explain_call(matches),
         CommandForm::Serve => serve_call(matches),
         CommandForm::Node => node::node_call(matches),

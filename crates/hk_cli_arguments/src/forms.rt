@@ -320,9 +320,8 @@ pub(crate) fn words_of(form: CommandForm) -> &'static [Word] {
         ],
         CommandForm::Pull => &[Word::Address, Word::From],
         CommandForm::Shell => &[Word::Address, Word::Text, Word::Hex],
-        CommandForm::Push | CommandForm::Feed | CommandForm::Load | CommandForm::Prune => {
-            &[Word::Address]
-        }
+        CommandForm::Push | CommandForm::Load | CommandForm::Prune => &[Word::Address],
+        CommandForm::Feed => &[Word::Address, Word::Follow],
         CommandForm::World => &[Word::Items],
         CommandForm::Explain => &[Word::Refusal],
         other => words_of_serving(other),

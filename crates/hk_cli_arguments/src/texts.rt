@@ -173,13 +173,16 @@ pub(crate) const PRUNE_EXAMPLE: &str = "Example:
   hkrep prune --port 7426 1
 prints 'done' and the number of the node's operation.";
 
-pub(crate) const FEED_ABOUT: &str = "Send the item frames of standard input to a node";
+pub(crate) const FEED_ABOUT: &str =
+    "Send the item frames of standard input, or of a log in a file, to a node";
 
 pub(crate) const FEED_EXAMPLE: &str = "Example:
   hkrep feed --port 7426 < examples/first.bin
 prints 'done' and the number of the node's last operation. Standard error says how many items a second went. \
 The first batch that is refused ends it; those before it are applied. With --messages 2, to a node that answers these, \
-standard error also says how many of the items the node didn't know before: 'new 2 of 2'.";
+standard error also says how many of the items the node didn't know before: 'new 2 of 2'.
+'hkrep feed --port 7426 --follow orders.log' sends what the log has, as far as orders.log.sums reaches, and then what comes, until it is ended \
+or the node is gone. Nothing is sent before the disk has it.";
 
 pub(crate) const SHELL_ABOUT: &str = "Answer the lines of standard input from a node that runs";
 

@@ -9,6 +9,7 @@ pub(crate) enum Word {
     Address,
     Items,
     Out,
+    Follow,
     Plain,
     Force,
     From,
@@ -58,6 +59,7 @@ fn name_of(word: Word) -> &'static str {
         Word::Address => "node",
         Word::Items => "items",
         Word::Out => "out",
+        Word::Follow => "follow",
         Word::Plain => "plain",
         Word::Force => "force",
         Word::From | Word::Sources => "from",
@@ -75,7 +77,7 @@ fn name_of(word: Word) -> &'static str {
 fn value_of(word: Word) -> &'static str {
     match word {
         Word::Address => "ADDRESS",
-        Word::Items | Word::Out | Word::Load => "FILE",
+        Word::Items | Word::Out | Word::Follow | Word::Load => "FILE",
         Word::From => "Q",
         Word::Refusal => "NUMBER",
         Word::Sources => "NODE",
@@ -145,6 +147,9 @@ where neither is given HKREP_NODE of the environment, else 127.0.0.1:7420"
         Word::Out => {
             "Write to this file: all of it, synced, or it stays as it was. What it had before is in FILE.1 then"
         }
+        Word::Follow => {
+            "Send the log in this file, beside FILE.sums, in place of standard input, and what comes, until it is ended. What it sends is on the disk"
+        }
         Word::Plain => {
             "Leave the checksum out, as for an hkrep that doesn't know it (refused 4 behind a fragment)"
         }
@@ -173,7 +178,7 @@ where neither is given HKREP_NODE of the environment, else 127.0.0.1:7420"
 fn shape_of(word: Word) -> Shape {
     match word {
         Word::Refusal => Shape::Position,
-        Word::Address | Word::Items | Word::Out | Word::From => Shape::Option,
+        Word::Address | Word::Items | Word::Out | Word::Follow | Word::From => Shape::Option,
         Word::PartsBytes | Word::Listening => Shape::Option,
         Word::Socket | Word::ReadSocket | Word::LogFormat => Shape::Option,
         Word::Sources | Word::Load => Shape::Options,

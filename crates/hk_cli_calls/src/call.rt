@@ -90,4 +90,6 @@ pub enum Call<'a> {
     Node(NodeCall<'a>),
     /// The same, and write what it prints into a file: all of it, or the file stays as it is.
     Into(NodeCall<'a>, Kept<'a>),
+    /// Have a node that runs apply the items of a log in the file of this name, and those that come.
+    Follow(NodeCall<'a>, &'a str),
 }

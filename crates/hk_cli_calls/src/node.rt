@@ -71,10 +71,11 @@ pub enum Order {
         horizon: Time,
     },
     /// To apply the items of the input, in batches of so many, or of 67,108,864 bytes; by requests of version 2 where the number
-    /// of new ones is wanted.
+    /// of new ones is wanted. Where it follows, the input goes on behind its end, again and again.
     Feed {
         batch: u64,
         with_second: bool,
+        follows: bool,
     },
 }
 

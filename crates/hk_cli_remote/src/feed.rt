@@ -1,12 +1,14 @@
 //! Item frames in batches: `feed`.
 
 use crate::link::{Link, unasked};
+use crate::read::{fragment_at, front_at};
 use hk_cli_commands::Output;
 use hk_cli_input::{Sink, Stop, hand_items};
 use hk_codec::frame_len;
 use hk_log::{Item, Spare};
+use hk_marks::Got;
 use hk_messages::{LaterReply, Reply, Request};
-use hk_types::Refusal;
+use hk_types::{Refusal, StreamNo, Time};
 use std::alloc::Global;
 use std::io::{Read, Write};
 use std::mem;
@@ -30,6 +32,18 @@ struct Fed {
     ops: u64,
 }
 
+/// Up to where the entries of a log's first stream go on without a hole.
+#[derive(Clone, Copy)]
+struct Reach {
+    /// The number of the last one that the node has or was sent.
+    last: u64,
+    /// That of the first one behind a hole, if one came.
+    beyond: Option<u64>,
+}
+
+/// What to do where entries lack.
+const FILL: &str = "fill it from another node (hkrep pull), or from a save of one (hkrep load)";
+
 /// Items on their way to a node.
 #[derive(Drop)]
 struct Batches<'a> {
@@ -44,6 +58,8 @@ struct Batches<'a> {
     bytes: u64,
     /// What the node did with those before.
     fed: Fed,
+    /// Up to where they go on, where a hole stops them.
+    reach: Option<Reach>,
 }
 
 impl<'a> Batches<'a> {
@@ -61,6 +77,7 @@ impl<'a> Batches<'a> {
                 new: 0,
                 ops: 0,
             },
+            reach: None,
         }
     }
 
@@ -118,6 +135,29 @@ impl<'a> Batches<'a> {
         Ok(())
     }
 
+    /// Whether the entry of this number stands behind no hole.
+    fn reaches(&mut self, number: u64) -> bool {
+        let Some(before) = self.reach else {
+            return true;
+        };
+        let mut reach = before;
+        if number > before.last.saturating_add(1) {
+            reach.beyond = Some(number);
+        } else {
+            reach.last = before.last.max(number);
+        }
+        self.reach = Some(reach);
+        reach.beyond.is_none()
+    }
+
+    /// The same of an item.
+    fn goes_on(&mut self, item: &Item) -> bool {
+        match item {
+            Item::Commit(entry) if entry.stream().number() == 1 => self.reaches(entry.number()),
+            _other => true,
+        }
+    }
+
     fn is_full(&self) -> bool {
         let count = self.items.len() as u64;
         count >= self.most || count >= MOST_ITEMS || self.bytes >= MOST_BYTES
@@ -130,6 +170,9 @@ impl Sink for Batches<'_> {
     ghost took = { λ _ _ _. Unit {0} };
 
     fn take(&mut self, item: Item, _spare: &mut Spare) -> Result<(), Stop> {
+        if !self.goes_on(&item) {
+            return Err(Stop::Quit);
+        }
         self.bytes = self.bytes.saturating_add(frame_len(&item) as u64);
         if self.items.push(item).is_err() {
             return Err(Stop::Refused(Refusal::Memory));
@@ -204,6 +247,88 @@ fn feed_all<I: Read>(
     let mut batches = Batches::new(link, most, with_second);
     batches.hand_all(input)?;
     Ok(batches.fed)
+}
+
+/// The number of the entry up to which a node has all of the first stream.
+fn last_in(got: &Got) -> u64 {
+    match StreamNo::new(1) {
+        Ok(stream) if stream.number() <= got.streams() => got.prefix(stream),
+        _none => 0,
+    }
+}
+
+/// The same, as the node says it: the delta since the last time of all has no facts.
+fn last_at(link: &mut Link) -> Result<u64, Stop> {
+    let base = Time::last();
+    let fragment = fragment_at(link, Request::Delta { base })?;
+    Ok(last_in(fragment.got()))
+}
+
+/// Sends the items of the input up to its next end, as long as their entries have no hole.
+fn feed_behind<I: Read>(
+    link: &mut Link,
+    input: &mut I,
+    most: u64,
+    with_second: bool,
+    reach: &mut Reach,
+) -> Result<(), Stop> {
+    let mut batches = Batches::new(link, most, with_second);
+    batches.reach = Some(*reach);
+    let handed = batches.hand_all(input);
+    if let Some(now) = batches.reach {
+        *reach = now;
+    }
+    handed
+}
+
+/// Asks whether the node is there, where the input had nothing to send.
+fn asked_if_empty(link: &mut Link, fed: Result<(), Stop>) -> Result<(), Stop> {
+    match fed {
+        Err(Stop::EmptyInput) => {
+            let _front = front_at(link)?;
+            Ok(())
+        }
+        other => other,
+    }
+}
+
+/// Prints which entries lack between those that the node has and those of the input.
+fn tell_hole<W: Write, E: Write>(
+    alloc: Global,
+    last: u64,
+    beyond: u64,
+    output: &mut Output<'_, W, E>,
+) -> Result<(), Stop> {
+    let (first, end) = (last.saturating_add(1), beyond.saturating_sub(1));
+    let line = format!(in alloc;
+        "stopped: entries {first} to {end} are no longer in the log, and the node lacks them: {FILL}\n"
+    )?;
+    output.note(&line);
+    Ok(())
+}
+
+/// Sends the items of an input that goes on behind its end, until something stops it: each time what it has up to there, and where that is
+/// nothing it asks whether the node is there. Returns that it was stopped by a hole, which a line on standard error says.
+pub(crate) fn follow<I: Read, W: Write, E: Write>(
+    link: &mut Link,
+    input: &mut I,
+    most: u64,
+    with_second: bool,
+    output: &mut Output<'_, W, E>,
+) -> Result<bool, Stop> {
+    let mut reach = Reach {
+        last: last_at(link)?,
+        beyond: None,
+    };
+    for _ in 0..u64::MAX {
+        let fed = feed_behind(link, input, most, with_second, &mut reach);
+        if let Some(beyond) = reach.beyond {
+            tell_hole(link.alloc(), reach.last, beyond, output)?;
+            return Ok(true);
+        }
+        asked_if_empty(link, fed)?;
+    }
+    Ok(false)
 }
 
 /// Sends the items of the input to the node, in batches of so many items or as many bytes as a batch may have, and prints the

@@ -3,7 +3,7 @@
 ghost use Rattle.std.specs.Prelude.{◌≤◌};
 
 use crate::change::{prune, pull};
-use crate::feed::feed;
+use crate::feed::{feed, follow};
 use crate::link::Link;
 use crate::numbers::{Numbers, tell_numbers};
 use crate::push::{load_all, push_all};
@@ -102,7 +102,18 @@ where
 {
     match &call.order {
         Order::Pull => pull(rt, link, call, terminal, output)?,
-        Order::Feed { batch, with_second } => feed(rt, link, input, *batch, *with_second, output)?,
+        Order::Feed {
+            batch,
+            with_second,
+            follows: true,
+        } => {
+            return follow(link, input, *batch, *with_second, output);
+        }
+        Order::Feed {
+            batch,
+            with_second,
+            ..
+        } => feed(rt, link, input, *batch, *with_second, output)?,
         Order::Push { .. } | Order::Load | Order::Shell { .. } => {
             return pass_on(link, &call.order, input, terminal.is_input, output);
         }
@@ -152,6 +163,9 @@ fn written<W: Write, E: Write>(
 /// terminal is the input a banner, and a prompt before each line; a line of another form is reported on `errors`, a refusal is printed and
 /// explained, and the next line goes on. `Load` and `Feed` end with the status 1 where the input is empty. Where standard error is a
 /// terminal each megabyte of a reply is counted there, in a line that is overwritten.
+/// A `Feed` that follows asks the node how far it is, and sends what the input has up to an end of it, again and again, until something stops
+/// it: also an entry of the first stream behind one that neither the node nor the input had, which `errors` says. Where the input had nothing
+/// it asks whether the node is there. Each end of the input has to be an item's.
 /// `Front` with a time, and `Ask` where it waits, wait until that can be read, by requests of version 2, each of which the node may let wait
 /// for up to ten seconds.
 /// `Status` reads a delta since the resolved time, and is refused as too old where the node is pruned between; for the node's numbers and

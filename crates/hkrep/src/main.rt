@@ -1,10 +1,13 @@
 //! The program `hkrep`.
 #![tactic(auto)]
 
+mod followed;
 mod nothing;
+mod sum_line;
 mod watched;
 mod whole_file;
 
+use crate::followed::{Flaw, Followed};
 use crate::watched::Watched;
 use crate::whole_file::WholeFile;
 use clap::Error;
@@ -241,6 +244,66 @@ where
     }
 }
 
+/// What is wrong with a log in a file.
+fn words_of(flaw: Flaw) -> &'static str {
+    match flaw {
+        Flaw::Line => "FILE.sums has a line that is none of a block: it is corrupt",
+        Flaw::Tail => "the file ends before the block does that begins there: it lost its tail",
+        Flaw::Sum =>
+            "the block that begins there has another checksum than FILE.sums says: it is corrupt",
+        Flaw::More => {
+            "more stands there, behind the last checksum, than the one block that a writer leaves: FILE.sums is older, or another file's"
+        }
+        Flaw::Disk => {
+            "what was read can't be brought to the disk, and isn't sent: see to the disk, and whether the file is whole, before the next try"
+        }
+        Flaw::Gone => "the file isn't there any more, or its FILE.sums isn't",
+    }
+}
+
+/// Prints what is wrong behind a byte of a log in a file of this name.
+fn tell_flaw<E: Write>(alloc: Global, name: &str, end: u64, flaw: Flaw, errors: &mut E) {
+    let line = format!(in alloc; "stopped: byte {end} of {name}: {}\n", words_of(flaw));
+    let _told = match line {
+        Ok(line) => errors.write_all(line.as_bytes()),
+        Err(_memory) => errors.write_all(NO_FILE),
+    };
+}
+
+/// The status of an order to a node whose input is the log in the file of this name, and what comes.
+fn run_followed<R, W: Write, E: Write>(
+    rt: &R,
+    terminal: Terminal,
+    call: &NodeCall<'_>,
+    name: &str,
+    output: &mut W,
+    errors: &mut E,
+) -> u8
+where
+    R: Net<Listener = TcpListener, Stream = TcpStream> + Clock,
+    R: Files<File = File> + Alloc<A = Global>,
+{
+    match Followed::new(rt, name) {
+        Ok(mut log) => {
+            let status = run_order(rt, rt.alloc(), call, &mut log, terminal, output, errors);
+            if let Some(flaw) = log.flaw {
+                tell_flaw(rt.alloc(), name, log.end, flaw, errors);
+            }
+            status
+        }
+        Err(error) => {
+            tell_no_file(
+                rt.alloc(),
+                "follow, with its FILE.sums,",
+                name,
+                &error,
+                errors,
+            );
+            1
+        }
+    }
+}
+
 /// The status of a call over standard output and these.
 fn run<R, I: Read, E: Write>(
     rt: &R,
@@ -276,6 +339,7 @@ where
         }
         Call::Stay(config, stay) => run_stay(rt, *config, stay, &mut output, errors),
         Call::Into(call, kept) => run_into(rt, input, terminal, call, kept, errors),
+        Call::Follow(call, name) => run_followed(rt, terminal, call, *name, &mut output, errors),
         Call::Node(call) => {
             run_order(rt, rt.alloc(), call, input, terminal, &mut output, errors)
         }

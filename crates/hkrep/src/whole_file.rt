@@ -40,7 +40,7 @@ fn plain_name<R: Files + Alloc<A = Global>>(rt: &R, name: &str) -> io::Result<St
 }
 
 /// Whether an open file is the one of this name.
-fn is_at<R: Files>(rt: &R, file: &File, name: &str) -> io::Result<bool> {
+pub(crate) fn is_at<R: Files>(rt: &R, file: &File, name: &str) -> io::Result<bool> {
     match fs::metadata(rt, name) {
         Ok(found) => Ok(found.ino() == file.metadata()?.ino()),
         Err(error) if error.kind() == ErrorKind::NotFound => Ok(false),
@@ -77,14 +77,18 @@ fn named_too<R: Files + Alloc<A = Global>>(rt: &R, name: &str, second: &str) -> 
     fs::rename(rt, new.as_str(), second)
 }
 
-/// Has the system keep the names of a file's folder, where it can.
-fn sync_folder<R: Files<File = File>>(rt: &R, name: &str) {
-    let folder = match name.rsplit_once('/') {
+/// The folder that a file's name is in.
+pub(crate) fn folder_of(name: &str) -> &str {
+    match name.rsplit_once('/') {
         Some(("", _name)) => "/",
         Some((folder, _name)) => folder,
         None => ".",
-    };
-    if let Ok(folder) = fs::open(rt, folder) {
+    }
+}
+
+/// Has the system keep the names of a file's folder, where it can.
+fn sync_folder<R: Files<File = File>>(rt: &R, name: &str) {
+    if let Ok(folder) = fs::open(rt, folder_of(name)) {
         let _synced = folder.sync_all();
     }
 }
