@@ -686,8 +686,17 @@ def main(words):
     entries = int(words.pop(0)) if words and words[0].isdigit() else 1000
     frames = log_of(entries, 5)
     log = (entries, frames, tables_of(frames, entries))
-    def run(story):
+    def once(story):
         return story() if story is demonstrated else play(story, lambda folder: BENCHES.get(story, Bench)(folder, *log))
+
+    def run(story):
+        """A story that fails is played once more, and both times are told, unless ONCE is set: now and then the servers, which aren't ours, find no
+        cluster, elect nobody, or leave one behind. What fails twice fails."""
+        name, problems, told = once(story)
+        if not problems or os.environ.get("ONCE"):
+            return name, problems, told
+        name, again, told = once(story)
+        return name, again and problems + again, told if again else f"the second time; the first: {problems[0][:300]}"
 
     chosen = [story for story in STORIES if not words or story.__name__ in words]
     with ThreadPoolExecutor(SIDE_BY_SIDE) as pool:
