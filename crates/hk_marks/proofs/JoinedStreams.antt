@@ -1,9 +1,10 @@
 -- Two views of a stream taken together.
-use Rattle.std.proofs.Common.{◌≡◌, refl, sym, ap, subst, ◌∙◌, ℕ, ◌<◌, ◌≤◌, ◌^◌, Bool, true, false, cond, Option, Some, None, is_some, List, [], ◌∷◌, ◌++◌, length, take, drop, All, ◌||◌, ◌&&◌, ltb, leb, nat_cmp, arith, max, true≢false}
+use Rattle.std.proofs.Common.{◌≡◌, refl, sym, ap, subst, ◌∙◌, ℕ, ◌<◌, ◌≤◌, ◌^◌, Bool, true, false, cond, Option, Some, None, is_some, List, [], ◌∷◌, ◌++◌, length, take, drop, All, ◌||◌, ◌&&◌, ltb, leb, nat_cmp, arith, max, true≢false, append-nil}
 use Rattle.std.proofs.Math.Seq.{take-append_seam}
 use Rattle.std.proofs.lemmas.Bool.Decides.{nat_tests}
 use Rattle.std.proofs.lemmas.List.Elements.{All-nil, All-cons}
 use Rattle.std.specs.Bool.{OnTrue}
+use Rattle.std.specs.List.{slice_get}
 use Rattle.std.specs.Ordering.{eq_by_cmp}
 use Rattle.std.specs.Cmp.{nat_cmp_total}
 use Rattle.std.specs.BTreeMap.{BTreeMap}
@@ -20,7 +21,7 @@ use Rattle.hk_marks.proofs.StoredStreams.{contains-taken_seen, get-waiting_seen}
 use Rattle.hk_marks.proofs.Readers.{entries-waiting_seen}
 use Rattle.hk_marks.proofs.Limits.{all_numbered}
 use Rattle.hk_marks.specs.Seen.{taken_seen, waiting_seen, IsExtra, AreStreams, stream_seen}
-use Rattle.hk_marks.specs.Parts.{has_number}
+use Rattle.hk_marks.specs.Parts.{AddsMark, RaisesMarks, has_number}
 
 -- ---- counts that wait with time 0 tell nothing that is not told
 
@@ -108,6 +109,31 @@ of_true false e p = absurd (true≢false (sym e))
 
 pub covered : (t : set.FinSet nat_cmp) (p k : ℕ) → ((n : ℕ) → covers t n ≡ leb n p) → k ≤ p → covers t k ≡ true
 covered t p k law below = let e : leb k p ≡ true = grind (arith, nat_tests) in law k ∙ e
+
+-- one mark alone that is covered closes
+pub one_closed : (prefix before after k m : ℕ) (w : BTreeMap ℕ ℕ) → k ≤ prefix → after ≡ max before m → RaisesMarks prefix before after w w ((k, m) ∷ [])
+one_closed prefix before after k m w below is t law =
+    ap (stream_with t after) (sym (append-nil (finmap.entries (waiting_seen w))))
+    ∙ raised_closed t before after k m (finmap.entries (waiting_seen w)) [] (covered t prefix k law below) is
+
+-- one mark alone joins the one that waits for the same count
+pub one_raised : (prefix before k m : ℕ) (w v : BTreeMap ℕ ℕ) → AddsMark k m w v → RaisesMarks prefix before before w v ((k, m) ∷ [])
+one_raised prefix before k m w v adds t law =
+    ap (stream_with t before) (sym (append-nil (finmap.entries (waiting_seen v))))
+    ∙ raised_waiting t before k m (waiting_seen w) (waiting_seen v) [] (λ q. get-waiting_seen v q ∙ adds q ∙ ap (later (told (k, m) q)) (sym (get-waiting_seen w q)))
+
+same_mark : (x y : ℕ × ℕ) → ◌≡◌ (Some x) (Some y) → x ≡ y
+same_mark x y e = cc
+
+one_alone : (marks : List (ℕ × ℕ)) (x : ℕ × ℕ) → length marks ≡ 1 → slice_get marks 0 ≡ Some x → marks ≡ x ∷ []
+one_alone [] x one first = absurd (omega arith)
+one_alone (y ∷ []) x one first = ap (λ (z : ℕ × ℕ). z ∷ []) (same_mark y x first)
+one_alone (y ∷ z ∷ marks) x one first = absurd (omega arith)
+
+-- where there is one mark, taking it is taking all
+pub only_mark : (prefix before after : ℕ) (w v : BTreeMap ℕ ℕ) (marks : List (ℕ × ℕ)) (k m : ℕ) → length marks ≡ 1 → slice_get marks 0 ≡ Some (k, m) → RaisesMarks prefix before after w v ((k, m) ∷ []) → RaisesMarks prefix before after w v marks
+only_mark prefix before after w v marks k m one first raises t law =
+    raises t law ∙ ap (λ (ms : List (ℕ × ℕ)). stream_with t before (finmap.entries (waiting_seen w) ++ ms)) (sym (one_alone marks (k, m) one first))
 
 -- ---- the numbers of another view
 

@@ -1,16 +1,17 @@
 -- What is inserted for another view, and taken back again.
-use Rattle.std.proofs.Common.{◌≡◌, refl, sym, ap, ◌∙◌, ℕ, zero, suc, ◌<◌, ◌+◌, Bool, true, false, cond, not, Option, Some, None, is_some, List, [], ◌∷◌, map, filter, length, take, get_or, ◌||◌, ◌&&◌, ltb, nat_cmp, arith, true≢false, Result, Ok, Err, OnOk, OnErr, is_err}
+use Rattle.std.proofs.Common.{◌≡◌, refl, sym, ap, ◌∙◌, ℕ, zero, suc, ◌<◌, ◌+◌, Bool, true, false, cond, not, Option, Some, None, is_some, List, [], ◌∷◌, map, filter, All, length, take, get_or, ◌||◌, ◌&&◌, ltb, leb, nat_cmp, arith, true≢false, Result, Ok, Err, OnOk, OnErr, is_err}
 use Rattle.std.proofs.lemmas.Bool.Decides.{nat_tests}
 use Rattle.std.proofs.lemmas.Bool.{and_parts}
 use Rattle.std.proofs.lemmas.List.{take_more}
 use Rattle.std.proofs.lemmas.List.Folds.{list_any-append}
 use Rattle.std.specs.Map.{lookup}
-use Rattle.std.specs.Ordering.{eq_by_cmp}
+use Rattle.std.proofs.lemmas.List.Elements.{All-head, All-tail}
+use Rattle.std.specs.Ordering.{eq_by_cmp, is_lt}
 use Rattle.std.specs.Cmp.{nat_cmp_total, eq_by_cmp_equiv}
 use Rattle.std.specs.BTreeMap.{BTreeMap, is_at}
 use Rattle.std.specs.BTreeMap as tree
 use Rattle.hk_model.proofs.Replica.Streams.{tied_counts}
-use Rattle.hk_marks.specs.Parts.{has_number}
+use Rattle.hk_marks.specs.Parts.{has_number, lacking_counts, LacksNone}
 
 -- ---- one more number of a list
 
@@ -145,3 +146,16 @@ counts_back cs q after now before back came apart = by (has_number cs q) refl ba
     by : (b : Bool) → has_number cs q ≡ b → after ≡ cond b None now → now ≡ cond b (Some 0) before → after ≡ before
     by true e back came = back ∙ sym (apart e)
     by false e back came = back ∙ came
+
+-- ---- counts that are all covered
+
+above_last : (prefix last q : ℕ) → is_lt (nat_cmp last q) ≡ false → leb last prefix ≡ true → ltb prefix q ≡ false
+above_last prefix last q up below = grind (arith, nat_tests)
+
+-- where the greatest count is covered none is lacking
+pub none_beyond : (prefix last : ℕ) (counts : List ℕ) → leb last prefix ≡ true → All (λ q. is_lt (nat_cmp last q) ≡ false) counts → LacksNone prefix counts
+none_beyond prefix last [] below all waiting = refl
+none_beyond prefix last (q ∷ counts) below all waiting =
+    ap (λ b. cond (b && not (is_some (tree.get nat_cmp waiting q))) (q ∷ lacking_counts prefix waiting counts) (lacking_counts prefix waiting counts))
+    (above_last prefix last q (All-head (λ q. is_lt (nat_cmp last q) ≡ false) q counts all) below)
+    ∙ none_beyond prefix last counts below (All-tail (λ q. is_lt (nat_cmp last q) ≡ false) q counts all) waiting

@@ -1,5 +1,5 @@
 -- What calls do to the stored parts of a stream: its prefix, its extra numbers, its closed time and its waiting marks.
-use Rattle.std.specs.Prelude.{◌≡◌, ℕ, Bool, ◌<◌, ◌++◌, ◌&&◌, true, not, cond, filter, is_some, nat_le, nat_lt, List, Some, None}
+use Rattle.std.specs.Prelude.{◌≡◌, ℕ, Bool, ◌<◌, ◌++◌, ◌&&◌, true, not, cond, filter, is_some, nat_le, nat_lt, List, [], Some, None}
 use Rattle.std.specs.List.{list_any}
 use Rattle.std.specs.Ordering.{nat_cmp, eq_by_cmp}
 use Rattle.std.specs.FinMap as finmap
@@ -58,6 +58,10 @@ RemovesCounts counts old new = (q : ℕ) → tree.get nat_cmp new q ≡ cond (ha
 -- of these counts, those that the prefix does not cover, and for which no mark waits
 abbrev pub lacking_counts : ℕ → BTreeMap ℕ ℕ → List ℕ → List ℕ
 lacking_counts prefix waiting counts = filter (λ q. nat_lt prefix q && not (is_some (tree.get nat_cmp waiting q))) counts
+
+-- of these counts none is beyond the prefix, whatever marks wait
+abbrev pub LacksNone : ℕ → List ℕ → Type 0
+LacksNone prefix counts = (waiting : BTreeMap ℕ ℕ) → lacking_counts prefix waiting counts ≡ []
 
 -- a mark waits already for each count of these marks that the prefix does not cover
 abbrev pub HasCounts : ℕ → BTreeMap ℕ ℕ → BTreeMap ℕ ℕ → Type 0

@@ -160,7 +160,7 @@ fn wait(waiting: &mut BTreeMap<u64, Time>, count: u64, upto: Time) -> Result<(),
     ensures ok { OnOk result (AddsMark count upto waiting.old waiting.new) }
     ensures err { OnErr result (waiting.new.entries ≡ waiting.old.entries) }
 {
-    if !raise_waiting(waiting, count, upto) {
+    if waiting.is_empty() || !raise_waiting(waiting, count, upto) {
         waiting.insert(count, upto)?;
     }
     Ok(())
@@ -328,6 +328,9 @@ impl Stream {
 fn copy_marks(marks: &BTreeMap<u64, Time>, alloc: Global) -> Result<BTreeMap<u64, Time>, AllocError>
     ensures { IfOk result (λ copied. (q : ℕ) → tree.get nat_cmp copied q ≡ tree.get nat_cmp marks.now q) }
 {
+    if marks.is_empty() {
+        return Ok(BTreeMap::new(alloc));
+    }
     marks
         .iter()
         .map(|(count, upto)| (*count, *upto))

@@ -1,5 +1,5 @@
 -- Runs that are joined one by one.
-use Rattle.std.proofs.Common.{◌≡◌, refl, sym, ap, ◌∙◌, subst, ℕ, ◌<◌, ◌≤◌, Bool, true, false, true≢false, cond, nat_cmp, Some, arith, List, [], ◌∷◌, ◌⊎◌, inl, inr, ◌||◌, Result, Ok, Err, OnErr, IsOk}
+use Rattle.std.proofs.Common.{◌≡◌, refl, sym, ap, ◌∙◌, subst, ℕ, ◌<◌, ◌≤◌, Bool, true, false, true≢false, cond, nat_cmp, Some, arith, List, [], ◌∷◌, length, ◌⊎◌, inl, inr, ◌||◌, Result, Ok, Err, OnErr, IsOk}
 use Rattle.std.specs.Ordering.{is_eq}
 use Rattle.std.specs.Cmp.{nat_cmp_total}
 use Rattle.std.specs.FinMap as finmap
@@ -7,7 +7,7 @@ use Rattle.std.specs.FinSet as set
 use Rattle.std.specs.BTreeMap as tree
 use Rattle.std.specs.BTreeMap.{BTreeMap}
 use Rattle.hk_numbers.specs.Runs.{end_of, AreKept, AreRuns, Holds, HasRoomAt, HasRoomFor, HasSome, KeepsRoom, SameNumbers, AddsSpan, Unites, numbers_in, numbers_seen, span}
-use Rattle.hk_numbers.proofs.SeenRuns.{Decides-seen, Decides-or, Decides-same, Decides-span, or_is, none_some, end_in, tied}
+use Rattle.hk_numbers.proofs.SeenRuns.{Decides-seen, Decides-or, Decides-same, Decides-span, or_is, none_some, end_in, tied, empty_seen}
 
 abbrev pub Listed : List (ℕ × ℕ) → ℕ → Type 0
 Listed es q = set.contains (numbers_in es) q ≡ true
@@ -133,3 +133,25 @@ seen_copied none room others new is kept same t u = set.same_set nat_cmp_total f
     (λ h. elim (u.only q h) [ inl x ↦ absurd (holds_none none is q (same.only q x)) | inr y ↦ y ])
     (u.added q)
     (Decides-seen new t.ordered q) (Decides-seen others kept.proper.ordered q))
+
+-- ---- where a tree is empty
+
+pub no_entries : (es : List (ℕ × ℕ)) → length es ≡ 0 → es ≡ []
+no_entries [] none = refl
+no_entries (x ∷ xs) none = absurd (omega arith)
+
+-- runs without any have no number
+pub none_seen : (none : BTreeMap ℕ ℕ) (q : ℕ) → length none.entries ≡ 0 → false ≡ set.contains (numbers_seen none) q
+none_seen none q is = sym (ap (λ (s : set.FinSet nat_cmp). set.contains s q) (empty_seen none (no_entries none.entries is)) ∙ set.contains-empty nat_cmp q)
+
+-- with those of none they are as they were
+pub seen_with_none : (runs none : BTreeMap ℕ ℕ) → AreRuns runs → AreRuns none → length none.entries ≡ 0 → numbers_seen runs ≡ set.union (numbers_seen runs) (numbers_seen none)
+seen_with_none runs none r s is = seen_union runs none runs r s r (record {
+  only = λ q h. inl h;
+  kept = λ q h. h;
+  added = λ q h. absurd (holds_none none (no_entries none.entries is) q h);
+})
+
+-- both without any have the same numbers
+pub seen_both_none : (one none : BTreeMap ℕ ℕ) → tree.IsEmpty one → length none.entries ≡ 0 → numbers_seen one ≡ numbers_seen none
+seen_both_none one none e is = empty_seen one e ∙ sym (empty_seen none (no_entries none.entries is))

@@ -14,6 +14,9 @@ pub fn has(runs: &BTreeMap<u64, u64>, number: u64) -> bool
     requires { AreKept runs.now }
     ensures { result ≡ set.contains (numbers_seen runs.now) number }
 {
+    if runs.is_empty() {
+        return false;
+    }
     match run_before(runs, number) {
         Some((_first, end)) => number < end,
         None => false,
@@ -59,6 +62,9 @@ pub fn make_room_for(
     ensures same { numbers_seen runs.new ≡ numbers_seen runs.old }
     ensures kept { AreKept runs.new }
 {
+    if others.is_empty() {
+        return Ok(());
+    }
     make_room(runs, others)
 }
 
@@ -70,6 +76,9 @@ pub fn settle_all(runs: &mut BTreeMap<u64, u64>, others: &BTreeMap<u64, u64>)
     ensures unites { numbers_seen runs.new ≡ set.union (numbers_seen runs.old) (numbers_seen others.now) }
     ensures kept { AreKept runs.new }
 {
+    if others.is_empty() {
+        return;
+    }
     settle(runs, others);
 }
 
@@ -80,6 +89,9 @@ pub fn copy(alloc: Global, runs: &BTreeMap<u64, u64>) -> Result<BTreeMap<u64, u6
     ensures kept { IfOk result (λ copied. AreKept copied) }
 {
     let mut copied = BTreeMap::new(alloc);
+    if runs.is_empty() {
+        return Ok(copied);
+    }
     make_room(&mut copied, runs)?;
     settle(&mut copied, runs);
     Ok(copied)

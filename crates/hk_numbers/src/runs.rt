@@ -108,6 +108,10 @@ pub(crate) fn add(runs: &mut BTreeMap<u64, u64>, first: u64, end: u64) -> Result
     ensures apart { DontTouch runs.new }
     ensures err { OnErr result (runs.new.entries ≡ runs.old.entries) }
 {
+    if runs.is_empty() {
+        runs.insert(first, end)?;
+        return Ok(());
+    }
     if let Some((start, its_end)) = run_before(runs, first) {
         if end <= its_end {
             return Ok(());

@@ -6,7 +6,7 @@
 //! be taken back, and a mark of time 0 for each count that has to wait. What can't fail comes after it, on the way out. Where a growth
 //! is refused, the way out takes the marks back.
 
-ghost use Rattle.std.specs.Prelude.{◌≡◌, ◌≤◌, ◌^◌, ℕ, ◌≢◌, [], ◌∷◌, true, length, max, None, All, IfSome, IfOk, IsOk, IsOkAnd, OnOk, OnErr};
+ghost use Rattle.std.specs.Prelude.{◌≡◌, ◌<◌, ◌≤◌, ◌^◌, ℕ, ◌≢◌, [], ◌∷◌, true, false, length, max, None, is_some, All, IfSome, IfOk, IsOk, IsOkAnd, OnOk, OnErr};
 ghost use Rattle.std.specs.Ordering.{nat_cmp};
 ghost use Rattle.std.specs.BTreeMap as tree;
 ghost use Rattle.std.specs.FinMap as finmap;
@@ -15,13 +15,24 @@ ghost use Rattle.hk_numbers.specs.Runs.{numbers_seen, AreKept, HasRoomFor};
 ghost use Rattle.hk_model.specs.Replica.Streams.{all_together, together};
 ghost use Rattle.hk_marks.specs.Seen.{taken_seen, waiting_seen, IsExtra};
 ghost use Rattle.hk_marks.specs.Steps.{IsInOrder};
-ghost use Rattle.hk_marks.specs.Parts.{AddsCounts, GoesOn, HasCounts, RaisesMarks, RemovesCounts, both_taken, has_number, lacking_counts, taken_beside};
+ghost use Rattle.hk_marks.specs.Parts.{AddsCounts, GoesOn, HasCounts, LacksNone, RaisesMarks, RemovesCounts, both_taken, has_number, lacking_counts, taken_beside};
 
 use super::{Stream, close_up_to, grow, raise_waiting, settle};
 use hk_numbers::{make_room_for, settle_all};
 use hk_types::Time;
 use std::alloc::{AllocError, Global};
 use std::collections::BTreeMap;
+
+/// Whether a prefix covers all of these marks.
+fn all_covered(prefix: u64, marks: &BTreeMap<u64, Time>) -> bool
+    ensures none { result ≡ true → LacksNone prefix (tree.keys marks.now) }
+    ensures some { result ≡ false → 0 < length marks.now.entries }
+{
+    match marks.last_key_value() {
+        Some((last, _upto)) => *last <= prefix,
+        None => true,
+    }
+}
 
 /// The counts of the other's waiting marks that have to wait here, and for which none waits yet.
 fn missing_counts(
@@ -33,7 +44,7 @@ fn missing_counts(
     ensures lacking { IfOk result (λ counts. counts.items ≡ lacking_counts prefix waiting.now (tree.keys others.now)) }
     ensures none { finmap.len (waiting_seen others.now) ≡ 0 → IsOkAnd result (λ counts. counts.items ≡ []) }
 {
-    if others.is_empty() {
+    if all_covered(prefix, others) {
         return Ok(Vec::new(alloc));
     }
     others
@@ -144,6 +155,24 @@ fn take_numbers(
     grow(prefix, extra);
 }
 
+/// Adds a mark that the prefix covers, or of whose count one waits already.
+fn raise_one(
+    prefix: u64,
+    closed: &mut Time,
+    waiting: &mut BTreeMap<u64, Time>,
+    count: u64,
+    upto: Time,
+)
+    requires { prefix < count → is_some (tree.get nat_cmp waiting.old count) ≡ true }
+    ensures { RaisesMarks prefix closed.old closed.new waiting.old waiting.new ((count, upto) ∷ []) }
+{
+    if count <= prefix {
+        close_up_to(closed, upto);
+    } else {
+        raise_waiting(waiting, count, upto);
+    }
+}
+
 /// Adds marks that the prefix covers, or of whose count one waits already.
 fn raise_marks(
     prefix: u64,
@@ -155,6 +184,12 @@ fn raise_marks(
     ensures settles { RaisesMarks prefix closed.old closed.new waiting.old waiting.new marks.now.entries }
     ensures rising { tree.IsOrdered nat_cmp marks.now }
 {
+    if marks.len() == 1 {
+        if let Some((count, upto)) = marks.first_key_value() {
+            raise_one(prefix, closed, waiting, *count, *upto);
+        }
+        return;
+    }
     for (count, upto) in marks {
         if *count <= prefix {
             close_up_to(closed, *upto);

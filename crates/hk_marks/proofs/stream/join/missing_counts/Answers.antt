@@ -1,6 +1,9 @@
-use Rattle.std.proofs.Common.{◌∙◌, sym, true≢false}
+use Rattle.std.proofs.Common.{◌∙◌, sym, arith}
 use Rattle.hk_marks.proofs.Readers.{length_seen}
 use Rattle.hk_marks.proofs.stream.join.missing_counts.Goals as goal
 
 pub returns-clause-none : goal.returns-clause-none
-returns-clause-none c = λ none. absurd (true≢false (sym (c.is_empty.ensures.1 (sym (length_seen _ c.keys.ensures.ordered) ∙ none)) ∙ c.if-is_empty.false))
+returns-clause-none c = λ none.
+    let some = c.all_covered.ensures.some c.if-all_covered.false in
+    let empty = sym (length_seen _ c.keys.ensures.ordered) ∙ none in
+    absurd (omega arith)
