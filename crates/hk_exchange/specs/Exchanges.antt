@@ -208,6 +208,10 @@ KeepsBy before then left after = (passes : Passes) (ready : List ℕ) → Stays 
 abbrev pub StaysBy : Exchange → List ℕ → Exchange → List ℕ → Type 0
 StaysBy before ready after out = (passes : Passes) → Stays passes (value_of before) ready (value_of after) out
 
+-- nothing but the session changed
+abbrev pub ChangesSession : Exchange → Exchange → Type 0
+ChangesSession before after = value_of after ≡ record (value_of before) { session = (value_of after).session }
+
 abbrev pub ToldBy : Exchange → Exchange → Reply → Type 0
 ToldBy before after reply = Told (value_of before) (value_of after) reply
 

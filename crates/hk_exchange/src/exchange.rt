@@ -2,7 +2,7 @@
 
 ghost use Rattle.std.specs.Prelude.{◌≡◌, ◌<◌, ◌≤◌, ◌+◌, ℕ, List, [], ◌++◌, true, false, length, take, drop, None, Some, is_some, IfNone, IfOk, IfSome};
 ghost use Rattle.hk_session_parts.specs.Sessions.{AnswersFirst};
-ghost use Rattle.hk_exchange.specs.Exchanges.{HasStanding, HoldsAll, HoldsOfFrame, IsNext, KeepsBy, LeavesFrom, LooksBy, LooksFrom, ReceivesBy, SendsBy, StaysBy, StaysReady, TakesBy, ToldBy, TurnsAnyhow, TurnsBy, end_of, is_within, start, value_of};
+ghost use Rattle.hk_exchange.specs.Exchanges.{ChangesSession, HasStanding, HoldsAll, HoldsOfFrame, IsNext, KeepsBy, LeavesFrom, LooksBy, LooksFrom, ReceivesBy, SendsBy, StaysBy, StaysReady, TakesBy, ToldBy, TurnsAnyhow, TurnsBy, end_of, is_within, start, value_of};
 
 use hk_doors::{FrameWatch, Passes, Taken, Then};
 use hk_messages::{Reply, Request};
@@ -460,6 +460,7 @@ impl Exchange {
     pub fn put_reply(&mut self, reply: Reply) -> Option<Reply>
         ensures told { ToldBy self.old self.new reply }
         ensures answers { AnswersFirst (value_of self.old).session (value_of self.new).session reply }
+        ensures same { ChangesSession self.old self.new }
         ensures taken { IfNone result ((value_of self.new).session.kept ≡ Some reply) }
         ensures back { IfSome result (λ _. value_of self.new ≡ value_of self.old) }
     {
