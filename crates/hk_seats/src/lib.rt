@@ -6,10 +6,12 @@ mod changing;
 mod kinds;
 mod reading;
 mod sessions;
+mod shown;
 mod way;
 
 pub use changing::{answer_at, learn};
 pub use kinds::{is_change, is_fed};
 pub use reading::{no_kind, read_at};
 pub use sessions::{all_ends, serve_plain};
+pub use shown::Shown;
 pub use way::Way;
