@@ -1,8 +1,8 @@
 //! What is left for a worker by others.
 
-use crate::link::Link;
+use crate::client::Client;
 use crate::sockets::Accepted;
-use hk_node::{NodeName, Receipt};
+use hk_node::NodeName;
 use std::alloc::Global;
 use std::mem;
 use std::sync::{Mutex, Wait};
@@ -16,11 +16,8 @@ pub(crate) enum Arrival<'d, J: NodeName> {
         door: usize,
         place: usize,
     },
-    /// A connection of another worker that asks for something long, and what that worker's seat has seen: it is shown no less here.
-    Moved {
-        link: Box<Link<'d>, Global>,
-        seen: Receipt<J>,
-    },
+    /// A client of another worker that asks for something long. What it has seen comes with it: it is shown no less here.
+    Moved(Box<Client<'d, J>, Global>),
 }
 
 /// What is left for a worker.

@@ -7,6 +7,7 @@
 
 mod accepting;
 mod arrivals;
+mod client;
 mod doors;
 mod link;
 mod links;

@@ -1,5 +1,10 @@
 //! A connection of a worker: its socket, its session, and what waits between them.
 
+ghost use Rattle.std.specs.Prelude.{◌≡◌, [], true};
+ghost use Rattle.hk_exchange.specs.Exchanges.{StaysBy, StaysReady, start, value_of};
+ghost use Rattle.hk_net.specs.declared.link.Stage.TheVariants.{Lives};
+ghost use Rattle.hk_net.specs.Connections.{IsNew, KeptBeside};
+
 use crate::doors::Limits;
 use crate::sockets::Socket;
 use crate::speech::speech_of;
@@ -55,7 +60,7 @@ pub(crate) struct Pipe<'d> {
     pub(crate) awaited: Option<Awaited>,
     /// When a byte came or went last, in milliseconds of the worker's clock.
     pub(crate) since: u64,
-    /// When the frame began that isn't complete, or its connection was read again last.
+    /// When the frame began that isn't complete, or its connection was read again last; then when the socket was closed for writing.
     pub(crate) frame_since: u64,
     /// A read may bring something.
     pub(crate) is_readable: bool,
@@ -67,11 +72,21 @@ pub(crate) struct Pipe<'d> {
     pub(crate) is_full: bool,
     /// Its next request is an Await, which was waited for.
     pub(crate) has_waited: bool,
-    /// The socket is closed for writing, and since when.
+    /// The socket is closed for writing.
     pub(crate) is_shut: bool,
-    pub(crate) shut_at: u64,
     /// It ends as it is, whatever stands.
     pub(crate) is_cut: bool,
+}
+
+/// How far the life of a connection is.
+#[derive(Clone, Copy)]
+pub(crate) enum Stage {
+    /// Its session goes on.
+    Lives,
+    /// Its session has ended, and what it kept is being dropped: it may have pins yet.
+    LetsGo,
+    /// What it kept was dropped.
+    Left,
 }
 
 /// A connection of a worker.
@@ -81,16 +96,17 @@ pub(crate) struct Link<'d> {
     door: u32,
     place: u32,
     pub(crate) pipe: Pipe<'d>,
-    /// What it keeps beside its worker's seat, and how many bytes of that are reserved for its pipe.
+    /// What it keeps beside its worker's seat, and how many times 4,096 bytes of that are reserved for its pipe.
     pub(crate) kept: Option<LinkState<'d>>,
-    pub(crate) reserved: u64,
-    /// Its session has ended, and what it kept was dropped.
-    pub(crate) has_let_go: bool,
+    pub(crate) reserved: u32,
+    pub(crate) stage: Stage,
 }
 
 impl<'d> Pipe<'d> {
     /// That of a connection that was just accepted.
-    pub(crate) fn new(alloc: Global, socket: Socket, now: u64, meters: &'d Meters<'d>) -> Pipe<'d> {
+    pub(crate) fn new(alloc: Global, socket: Socket, now: u64, meters: &'d Meters<'d>) -> Pipe<'d>
+        ensures { value_of result.exchange ≡ start }
+    {
         Pipe {
             meters,
             socket,
@@ -108,14 +124,15 @@ impl<'d> Pipe<'d> {
             is_full: false,
             has_waited: false,
             is_shut: false,
-            shut_at: 0,
             is_cut: false,
         }
     }
 
     /// Notes what the system said of its socket, and returns whether it has a turn. One that waits by an Await isn't read, but what stands
     /// is written.
-    pub(crate) fn note(&mut self, told: Readiness) -> bool {
+    pub(crate) fn note(&mut self, told: Readiness) -> bool
+        ensures { StaysReady self.old.exchange self.new.exchange }
+    {
         self.is_readable = self.is_readable || told.is_readable;
         self.is_special = self.is_special || told.is_special;
         self.is_closed = self.is_closed || told.is_closed;
@@ -131,7 +148,9 @@ impl<'d> Pipe<'d> {
     }
 
     /// Notes what its first bytes are of, once four are there.
-    pub(crate) fn note_first(&mut self, first: Option<[u8; 4]>) {
+    pub(crate) fn note_first(&mut self, first: Option<[u8; 4]>)
+        ensures { self.new.exchange ≡ self.old.exchange }
+    {
         if let (true, Some(first)) = (self.is_fresh, first) {
             self.is_fresh = false;
             self.speech = speech_of(&first);
@@ -149,7 +168,9 @@ impl<'d> Pipe<'d> {
     }
 
     /// Ends it as it is. A session that had ended keeps how it ended.
-    pub(crate) fn cut(&mut self, ended: Ended) {
+    pub(crate) fn cut(&mut self, ended: Ended)
+        ensures { StaysReady self.old.exchange self.new.exchange }
+    {
         self.is_cut = true;
         self.exchange.cut(ended);
     }
@@ -178,7 +199,7 @@ impl<'d> Pipe<'d> {
     fn over_time(&self, now: u64, limits: &Limits) -> Option<Ended> {
         let silent = now.saturating_sub(self.since);
         if self.is_shut {
-            let all = now.saturating_sub(self.shut_at);
+            let all = now.saturating_sub(self.frame_since);
             let is_over = silent >= MOST_SILENT || all >= MOST_LINGERING;
             return if is_over { Some(self.end()) } else { None };
         }
@@ -219,15 +240,24 @@ impl<'d> Link<'d> {
         place: usize,
         now: u64,
         meters: &'d Meters<'d>,
-    ) -> Link<'d> {
+    ) -> Link<'d>
+        ensures { IsNew result }
+    {
         Link {
             door: u32::try_from(door).unwrap_or(u32::MAX),
             place: u32::try_from(place).unwrap_or(u32::MAX),
             pipe: Pipe::new(alloc, socket, now, meters),
             kept: None,
             reserved: 0,
-            has_let_go: false,
+            stage: Stage::Lives,
         }
+    }
+
+    /// Whether what it keeps is of a session that goes on.
+    pub(crate) fn lives(&self) -> bool
+        ensures { result ≡ true → self.now.stage ≡ Lives }
+    {
+        matches!(self.stage, Stage::Lives)
     }
 
     /// The number of its door.
@@ -269,32 +299,45 @@ impl<'d> Link<'d> {
 
     /// Reserves room of the budget for what is between its socket and its session: what came of a frame that isn't complete, what waits
     /// behind an Await, for others or for another worker, and replies that aren't written. A connection for which there is none ends. Fewer bytes than 4,096 aren't counted.
-    pub(crate) fn reserve(&mut self) {
+    pub(crate) fn reserve(&mut self)
+        ensures stays { StaysBy self.old.pipe.exchange [] self.new.pipe.exchange [] }
+        ensures stage { self.new.stage ≡ self.old.stage }
+        ensures kept { KeptBeside self.old.kept self.new.kept }
+    {
         let exchange = &self.pipe.exchange;
         let held = exchange.held().saturating_add(exchange.standing());
-        let bytes = held / COUNTED_BYTES * COUNTED_BYTES;
-        if bytes == self.reserved {
+        let reserved = u32::try_from(held / COUNTED_BYTES).unwrap_or(u32::MAX);
+        if reserved == self.reserved {
             return;
         }
+        let bytes = u64::from(reserved).saturating_mul(COUNTED_BYTES);
         let has_room = match &mut self.kept {
             Some(kept) => kept.keep_bytes(bytes),
             None => true,
         };
         if has_room {
-            self.reserved = bytes;
+            self.reserved = reserved;
         } else {
             self.drop_held();
         }
     }
 
     /// Ends it for want of room, and drops what it holds.
-    fn drop_held(&mut self) {
+    fn drop_held(&mut self)
+        ensures stays { StaysBy self.old.pipe.exchange [] self.new.pipe.exchange [] }
+        ensures stage { self.new.stage ≡ self.old.stage }
+        ensures kept { KeptBeside self.old.kept self.new.kept }
+    {
         self.pipe.is_cut = true;
         self.pipe.exchange.drop_all(Ended::Memory);
     }
 
     /// The same at once where much stands, so that a reply for which there is no room is dropped before another one is made.
-    pub(crate) fn reserve_much(&mut self) {
+    pub(crate) fn reserve_much(&mut self)
+        ensures stays { StaysBy self.old.pipe.exchange [] self.new.pipe.exchange [] }
+        ensures stage { self.new.stage ≡ self.old.stage }
+        ensures kept { KeptBeside self.old.kept self.new.kept }
+    {
         if self.pipe.exchange.standing() > MOST_HELD as u64 {
             self.reserve();
         }

@@ -1,5 +1,10 @@
 //! A worker's sockets and connections, and what it does with them beside their turns: nothing of it asks the node.
 
+ghost use Rattle.std.specs.Prelude.{◌≡◌, [], IfSome};
+ghost use mathlib.Core.List.{IsPrefix};
+ghost use Rattle.hk_net.specs.Connections.{IsNew};
+
+use crate::client::Client;
 use crate::link::Link;
 use crate::serving::Tools;
 use crate::shop::Staff;
@@ -8,6 +13,7 @@ use crate::turns::Moment;
 use crate::worker::Worker;
 use hk_doors::Passes;
 use hk_host::{LinkEvent, Teller};
+use hk_node::{NodeName, ReaderSeat};
 use hk_session_parts::Ended;
 use mio::{Events, Poll, Token};
 use std::alloc::Global;
@@ -32,21 +38,21 @@ pub(crate) fn without_memory() -> LinkEvent {
 
 /// The sockets that a worker waits for, who is notified, and its connections.
 #[derive(Drop)]
-pub(crate) struct Reactor<'w, 'd, R: Wait + Clock + 'w> {
+pub(crate) struct Reactor<'w, 'd, J: NodeName, R: Wait + Clock + 'w> {
     pub(crate) rt: &'w R,
     pub(crate) staff: &'w Staff<'d>,
     pub(crate) poll: Poll,
     pub(crate) teller: Teller<'w>,
-    pub(crate) worker: Worker<'d>,
+    pub(crate) worker: Worker<'d, J>,
 }
 
-impl<'w, 'd, R: Wait + Clock + 'w> Reactor<'w, 'd, R> {
+impl<'w, 'd, J: NodeName, R: Wait + Clock + 'w> Reactor<'w, 'd, J, R> {
     /// That of a worker that begins, with room for what the system says.
     pub(crate) fn begin(
         rt: &'w R,
         staff: &'w Staff<'d>,
         tools: Tools<'w>,
-    ) -> (Reactor<'w, 'd, R>, Events) {
+    ) -> (Reactor<'w, 'd, J, R>, Events) {
         let Tools {
             alloc,
             number,
@@ -114,6 +120,15 @@ impl<'w, 'd, R: Wait + Clock + 'w> Reactor<'w, 'd, R> {
         link.pipe.is_cut
     }
 
+    /// Wakes who waits for what a seat can read, where a change was asked for in a turn.
+    pub(crate) fn ring(&self, seat: &mut ReaderSeat<J>)
+        ensures { IsPrefix seat.old seat.new }
+    {
+        if self.teller.take_change() {
+            self.teller.bell().ring_marks(seat);
+        }
+    }
+
     /// Notes a turn that began at this moment, of a connection of a door, and in which the node changed: where it took long, the node's
     /// second copy has to catch up.
     pub(crate) fn note_change(&mut self, moment: Moment, door: usize) {
@@ -126,10 +141,11 @@ impl<'w, 'd, R: Wait + Clock + 'w> Reactor<'w, 'd, R> {
     }
 
     /// Ends a connection: its socket is closed, and its slot is free.
-    pub(crate) fn close(&mut self, token: usize, link: Box<Link<'d>, Global>) {
+    pub(crate) fn close(&mut self, token: usize, client: Box<Client<'d, J>, Global>) {
+        let link = &client.link;
         let (ended, door, place) = (link.pipe.end(), link.door(), link.place());
         let speech = link.pipe.speech;
-        drop(link);
+        drop(client);
         self.worker.links.free(token);
         self.teller
             .tell(self.rt, LinkEvent::Ended { ended, speech });
@@ -149,16 +165,19 @@ impl<'w, 'd, R: Wait + Clock + 'w> Reactor<'w, 'd, R> {
         accepted: Accepted,
         door: usize,
         place: usize,
-    ) -> Option<Box<Link<'d>, Global>> {
+    ) -> Option<Box<Client<'d, J>, Global>>
+        ensures { IfSome result (λ client. IsNew client.value.link × (client.value.seen ≡ [])) }
+    {
         let (alloc, now, staff) = (self.worker.alloc, self.worker.now, self.staff);
         let socket = accepted.into_socket().ok()?;
         let link = Link::new(alloc, socket, door, place, now, staff.meters);
-        Box::new(alloc, link).ok()
+        Box::new(alloc, Client::new(link)).ok()
     }
 
     /// Takes in a connection. Where there is no memory for it, it is closed.
-    pub(crate) fn enter(&mut self, link: Box<Link<'d>, Global>) {
-        let mut link = link;
+    pub(crate) fn enter(&mut self, client: Box<Client<'d, J>, Global>) {
+        let mut client = client;
+        let link = &mut client.link;
         let Ok(token) = self.worker.links.new_token() else {
             self.refuse(link.door(), link.place());
             return;
@@ -167,7 +186,7 @@ impl<'w, 'd, R: Wait + Clock + 'w> Reactor<'w, 'd, R> {
         if link.pipe.socket.register(registry, Token(token)).is_err() {
             link.pipe.cut(Ended::Memory);
         }
-        self.worker.put_listed(token, link);
+        self.worker.put_listed(token, client);
     }
 
     /// Writes the replies of a connection that is handed to another worker, and has its socket's events come here no more. Returns whether

@@ -1,10 +1,10 @@
 //! What a worker does with its seat: each connection that can go on has a turn over a host of it.
 
-ghost use Rattle.std.specs.Prelude.{◌≡◌};
+ghost use Rattle.std.specs.Prelude.{◌≡◌, is_some};
+ghost use Rattle.hk_net.specs.Connections.{Serves};
 
 use crate::arrivals::{Arrival, Inbox};
-use crate::doors::Door;
-use crate::link::Link;
+use crate::client::Client;
 use crate::reactor::Reactor;
 use crate::shop::Shop;
 use crate::sockets::Accepted;
@@ -22,34 +22,41 @@ use std::thread::Threads;
 /// For how many milliseconds connections that had a turn have further ones before the system is asked what happened to others.
 const FURTHER_TURNS: u64 = 2;
 
-/// The turn of a connection that may do so much, over a host of the seat, which is returned.
+/// The turn of a client that may do so much, over a host of the seat, which is returned. The seat applies first what the client has seen,
+/// whichever worker showed it; and then the client has seen what the seat has.
 fn turn_over<'a, 'd, J: NodeName, N: Wait + Drop, R: Threads + Wait + Sync>(
     rt: &'a R,
     way: Way<'a, J, N>,
     teller: &'a Teller<'a>,
-    worker: &mut Worker<'d>,
+    worker: &mut Worker<'d, J>,
     moment: Moment,
-    link: &mut Link<'d>,
+    client: &mut Client<'d, J>,
     seat: ReaderSeat<J>,
-) -> (Turn, ReaderSeat<J>) {
+) -> (Turn, ReaderSeat<J>)
+    ensures turn { Serves J.kind moment seat
+        client.old.link client.old.seen client.new.link client.new.seen }
+    ensures seen { client.new.seen ≡ result.1 }
+{
+    let mut seat = seat;
+    client.show(&mut seat);
     let host = NodeHost::with_way(rt, worker.alloc, way, seat, Some(teller));
-    let (turn, host) = worker.turn(moment, link, host);
-    (turn, host.into_seat())
+    let (turn, host) = worker.turn(moment, &mut client.link, host);
+    let seat = host.into_seat();
+    client.note(&seat);
+    (turn, seat)
 }
 
-/// Leaves a connection for a worker, with what this worker's seat has seen. It comes back where that can't be done.
+/// Leaves a client for a worker. It comes back where that can't be done.
 fn leave_moved<'d, J: NodeName, R: Wait>(
     rt: &R,
     inbox: Option<&Inbox<Arrival<'d, J>>>,
-    seat: Option<&ReaderSeat<J>>,
-    link: Box<Link<'d>, Global>,
-) -> Option<Box<Link<'d>, Global>> {
-    let (Some(inbox), Some(seat)) = (inbox, seat) else {
-        return Some(link);
+    client: Box<Client<'d, J>, Global>,
+) -> Option<Box<Client<'d, J>, Global>> {
+    let Some(inbox) = inbox else {
+        return Some(client);
     };
-    let seen = seat.receipt();
-    match inbox.leave(rt, Arrival::Moved { link, seen }) {
-        Err(Arrival::Moved { link, .. }) => Some(link),
+    match inbox.leave(rt, Arrival::Moved(client)) {
+        Err(Arrival::Moved(client)) => Some(client),
         Ok(()) | Err(Arrival::Opened { .. }) => None,
     }
 }
@@ -65,7 +72,7 @@ struct Serving<
 > {
     shop: &'w Shop<'d, J, N>,
     seat: Option<ReaderSeat<J>>,
-    reactor: Reactor<'w, 'd, R>,
+    reactor: Reactor<'w, 'd, J, R>,
 }
 
 impl<'w, 'd, J: NodeName + 'w, N: Wait + Drop + 'w, R: Threads + Wait + Clock + Sync + 'w> Serving<
@@ -75,35 +82,19 @@ impl<'w, 'd, J: NodeName + 'w, N: Wait + Drop + 'w, R: Threads + Wait + Clock + 
     N,
     R,
 > {
-    /// The turn of a connection of a door, over a host of the seat, which is returned.
-    fn turn_on(
-        &mut self,
-        door: &Door<'d, J, N>,
-        moment: Moment,
-        link: &mut Link<'d>,
-        seat: ReaderSeat<J>,
-    ) -> (Turn, ReaderSeat<J>) {
-        let Reactor {
-            rt,
-            teller,
-            worker,
-            ..
-        } = &mut self.reactor;
-        turn_over(*rt, door.way.again(), teller, worker, moment, link, seat)
-    }
-
-    /// Leaves a connection for a worker that gives long answers, with what this worker's seat has seen. Where that can't be done it ends.
-    fn hand_over(&mut self, token: usize, link: Box<Link<'d>, Global>) {
-        let mut link = link;
-        if !self.reactor.lets_leave(&mut link) {
-            self.reactor.worker.cut(token, link);
+    /// Leaves a client for a worker that gives long answers. Where that can't be done its connection ends.
+    fn hand_over(&mut self, token: usize, client: Box<Client<'d, J>, Global>) {
+        let mut client = client;
+        if !self.reactor.lets_leave(&mut client.link) {
+            self.reactor.worker.cut(token, client);
             return;
         }
         let staff = &self.shop.staff;
-        let worker = staff.long_worker(link.place()).unwrap_or(usize::MAX);
+        let place = client.link.place();
+        let worker = staff.long_worker(place).unwrap_or(usize::MAX);
         let inbox = self.shop.inboxes.get(worker);
-        match leave_moved(self.reactor.rt, inbox, self.seat.as_ref(), link) {
-            Some(link) => self.reactor.worker.cut(token, link),
+        match leave_moved(self.reactor.rt, inbox, client) {
+            Some(client) => self.reactor.worker.cut(token, client),
             None => {
                 self.reactor.worker.links.free(token);
                 staff.bell.wake(worker);
@@ -111,21 +102,23 @@ impl<'w, 'd, J: NodeName + 'w, N: Wait + Drop + 'w, R: Threads + Wait + Clock + 
         }
     }
 
-    /// Does what a connection wants after its turn.
-    fn settle(&mut self, token: usize, turn: Turn, link: Box<Link<'d>, Global>) {
+    /// Does what a client wants after its turn.
+    fn settle(&mut self, token: usize, turn: Turn, client: Box<Client<'d, J>, Global>) {
         match turn {
-            Turn::Over => self.reactor.close(token, link),
-            Turn::Moves => self.hand_over(token, link),
-            stays => self.reactor.worker.settle(token, stays, link),
+            Turn::Over => self.reactor.close(token, client),
+            Turn::Moves => self.hand_over(token, client),
+            stays => self.reactor.worker.settle(token, stays, client),
         }
     }
 
-    /// The turn of the connection under a token, unless it waits for a time.
-    fn turn_of(&mut self, token: usize, link: &mut Link<'d>) -> Turn {
-        let Some(door) = self.shop.doors.get(link.door()) else {
+    /// The turn of the client under a token, unless it waits for a time.
+    fn turn_of(&mut self, token: usize, client: &mut Client<'d, J>) -> Turn
+        ensures { is_some self.new.seat ≡ is_some self.old.seat }
+    {
+        let Some(door) = self.shop.doors.get(client.link.door()) else {
             return Turn::Over;
         };
-        if !self.reactor.begin_turn(token, link) {
+        if !self.reactor.begin_turn(token, &mut client.link) {
             return Turn::Waits;
         }
         let Some(seat) = self.seat.take() else {
@@ -134,26 +127,31 @@ impl<'w, 'd, J: NodeName + 'w, N: Wait + Drop + 'w, R: Threads + Wait + Clock + 
         let moment = self.reactor.moment(door.way.passes());
         self.reactor
             .teller
-            .turn_to(link.place(), door.tells_changes);
+            .turn_to(client.link.place(), door.tells_changes);
         let seen = seat.seen();
-        let (turn, mut seat) = self.turn_on(door, moment, link, seat);
-        if self.reactor.teller.take_change() {
-            self.reactor.teller.bell().ring_marks(&mut seat);
-        }
+        let Reactor {
+            rt,
+            teller,
+            worker,
+            ..
+        } = &mut self.reactor;
+        let way = door.way.again();
+        let (turn, mut seat) = turn_over(*rt, way, teller, worker, moment, client, seat);
+        self.reactor.ring(&mut seat);
         if seen < seat.seen() {
-            self.reactor.note_change(moment, link.door());
+            self.reactor.note_change(moment, client.link.door());
         }
         self.seat = Some(seat);
         turn
     }
 
-    /// Gives the connection under a token its turn.
+    /// Gives the client under a token its turn.
     fn serve(&mut self, token: usize) {
-        let Some(mut link) = self.reactor.worker.links.take(token) else {
+        let Some(mut client) = self.reactor.worker.links.take(token) else {
             return;
         };
-        let turn = self.turn_of(token, &mut link);
-        self.settle(token, turn, link);
+        let turn = self.turn_of(token, &mut client);
+        self.settle(token, turn, client);
     }
 
     /// Gives those that had a turn and have more to do a further one, in their order, until so many milliseconds are over.
@@ -191,7 +189,7 @@ impl<'w, 'd, J: NodeName + 'w, N: Wait + Drop + 'w, R: Threads + Wait + Clock + 
 
     /// Takes in a connection that was accepted. Where that fails it is closed.
     fn open(&mut self, accepted: Accepted, door: usize, place: usize) {
-        let Some(mut link) = self.reactor.opened(accepted, door, place) else {
+        let Some(mut client) = self.reactor.opened(accepted, door, place) else {
             self.reactor.refuse(door, place);
             return;
         };
@@ -199,9 +197,9 @@ impl<'w, 'd, J: NodeName + 'w, N: Wait + Drop + 'w, R: Threads + Wait + Clock + 
             let may_release = matches!(door.way, Way::Open(_));
             let staff = &self.shop.staff;
             let worker = &mut self.reactor.worker;
-            link.kept = Some(worker.first_kept(may_release, door.budget, staff.meters));
+            client.begin(worker.first_kept(may_release, door.budget, staff.meters));
         }
-        self.reactor.enter(link);
+        self.reactor.enter(client);
     }
 
     /// Takes in what another left.
@@ -212,12 +210,7 @@ impl<'w, 'd, J: NodeName + 'w, N: Wait + Drop + 'w, R: Threads + Wait + Clock + 
                 door,
                 place,
             } => self.open(accepted, door, place),
-            Arrival::Moved { link, seen } => {
-                if let Some(seat) = &mut self.seat {
-                    seat.learn(seen);
-                }
-                self.reactor.enter(link);
-            }
+            Arrival::Moved(client) => self.reactor.enter(client),
         }
     }
 

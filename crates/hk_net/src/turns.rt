@@ -1,6 +1,11 @@
 //! A connection's turn: what is there is read, answered and written, at most so much that others have their turn soon.
 
-use crate::link::{Link, Pipe};
+ghost use Rattle.std.specs.Prelude.{◌≡◌, Some, None, [], IfSome, IfNone};
+ghost use mathlib.Core.List.{IsPrefix};
+ghost use Rattle.hk_exchange.specs.Exchanges.{StaysBy, StaysReady};
+ghost use Rattle.hk_net.specs.Connections.{KeptBeside, StepsAnyhow, StepsApart, StepsBy, Turned, own_of};
+
+use crate::link::{Link, Pipe, Stage};
 use hk_doors::{Passes, Then};
 use hk_exchange::{Came, How, LEAST_PIECE, Looked};
 use hk_link::PartsHost;
@@ -39,7 +44,9 @@ pub(crate) struct Moment {
 
 impl Moment {
     /// What is made of a connection's bytes.
-    fn how(self) -> How {
+    fn how(self) -> How
+        ensures { result.passes ≡ self.passes }
+    {
         How {
             passes: self.passes,
             is_at_long_end: self.is_at_long_end,
@@ -74,7 +81,8 @@ fn is_done(reply: &Reply) -> bool {
 /// released.
 fn release_some<H: NodeSide + Drop>(both: &mut PartsHost<'_, H>) -> bool
     requires { H.ready both.old.inner }
-    ensures { H.ready both.new.inner }
+    ensures ready { H.ready both.new.inner }
+    ensures seen { IsPrefix (H.side.list both.old.inner) (H.side.list both.new.inner) }
 {
     for _ in 0..SOME_PINS {
         let Some(number) = both.last_pin() else {
@@ -98,8 +106,14 @@ impl Pipe<'_> {
         }
     }
 
-    /// Notes how far the session is. An Await whose time is readable, or that waits for no time at all, is answered by the next step.
-    fn note_step(&mut self, step: Step, readable: u64) -> Option<Turn> {
+    /// Notes how far the session is; where there was no step it waits. An Await whose time is readable, or that waits for no time at all,
+    /// is answered by the next step.
+    fn note_step(&mut self, step: Option<Step>, readable: u64) -> Option<Turn>
+        ensures { self.new.exchange ≡ self.old.exchange }
+    {
+        let Some(step) = step else {
+            return Some(Turn::Waits);
+        };
         self.is_full = matches!(step, Step::Full);
         // A peer that sends no more gets what there is.
         let readable = if self.is_closed { u64::MAX } else { readable };
@@ -124,23 +138,11 @@ impl Pipe<'_> {
         None
     }
 
-    /// Reads once, and has its session answer what is complete.
-    fn read<H: NodeSide + Drop>(
-        &mut self,
-        how: How,
-        out: &mut Vec<u8>,
-        host: &mut PartsHost<'_, H>,
-        piece: &mut Vec<u8>,
-    ) -> Came
-        requires { H.ready host.old.inner }
-        ensures { H.ready host.new.inner }
-    {
-        self.exchange
-            .read(&mut self.socket, self.meters, how, piece, out, host)
-    }
-
     /// Takes what a step added, and writes what is long. Where the socket failed, or memory ran out, the connection ends.
-    fn put(&mut self, moment: Moment, out: &mut Vec<u8>) {
+    fn put(&mut self, moment: Moment, out: &mut Vec<u8>)
+        ensures stays { StaysBy self.old.exchange out.old.items self.new.exchange [] }
+        ensures empty { out.new.items ≡ [] }
+    {
         if !out.is_empty() {
             self.since = moment.now;
         }
@@ -170,12 +172,16 @@ impl Pipe<'_> {
     }
 
     /// Writes what stands, and counts what was written. Where the socket failed the connection ends.
-    pub(crate) fn write(&mut self, now: u64) {
+    pub(crate) fn write(&mut self, now: u64)
+        ensures { StaysReady self.old.exchange self.new.exchange }
+    {
         self.write_standing(now);
         self.meters.note_written(self.exchange.take_sent());
     }
 
-    fn write_standing(&mut self, now: u64) {
+    fn write_standing(&mut self, now: u64)
+        ensures { StaysReady self.old.exchange self.new.exchange }
+    {
         if self.is_cut {
             return;
         }
@@ -201,7 +207,9 @@ impl Pipe<'_> {
     /// What is done once the session has ended: its last replies are written, the socket is closed for writing, and what it still
     /// sends is read and dropped for a while. A connection that is closed over bytes that nobody read is cut off, and the peer
     /// could lose what was written.
-    fn linger(&mut self, moment: Moment, piece: &mut [u8]) -> Turn {
+    fn linger(&mut self, moment: Moment, piece: &mut [u8]) -> Turn
+        ensures { self.new.exchange ≡ self.old.exchange }
+    {
         if self.is_cut {
             return Turn::Over;
         }
@@ -213,7 +221,7 @@ impl Pipe<'_> {
         }
         if !self.is_shut {
             self.is_shut = true;
-            self.shut_at = moment.now;
+            self.frame_since = moment.now;
             self.since = moment.now;
             if self.socket.end_writing().is_err() {
                 return Turn::Over;
@@ -223,7 +231,9 @@ impl Pipe<'_> {
     }
 
     /// Reads and drops what the peer still sends.
-    fn drop_input(&mut self, moment: Moment, piece: &mut [u8]) -> Turn {
+    fn drop_input(&mut self, moment: Moment, piece: &mut [u8]) -> Turn
+        ensures { self.new.exchange ≡ self.old.exchange }
+    {
         for _ in 0..MOST_READS {
             match self.socket.read(piece) {
                 Ok(0) => return Turn::Over,
@@ -238,13 +248,23 @@ impl Pipe<'_> {
         Turn::Again
     }
 
-    /// What it does next, unless it was ended.
-    fn unless_cut(&self, turn: Turn) -> Turn {
-        if self.is_cut { Turn::Again } else { turn }
+    /// Has the host answer a request that may take many looks, where it takes few: its reply is kept. Returns false where it takes more.
+    fn answer_apart<H: NodeSide + Drop>(&mut self, host: &mut PartsHost<'_, H>) -> bool
+        requires { H.ready host.old.inner }
+        ensures ready { H.ready host.new.inner }
+        ensures steps { StepsApart H.side H.may host.old host.new self.old.exchange self.new.exchange }
+    {
+        let Some(request) = self.exchange.first_request() else {
+            return true;
+        };
+        let Some(reply) = host.answer_briefly(request) else {
+            return false;
+        };
+        // It was asked for just now, so it is taken.
+        let _back = self.exchange.put_reply(reply);
+        true
     }
-}
 
-impl<'d> Link<'d> {
     /// What a look at bytes came to: a request that may take many looks is answered where it takes few, else it waits.
     fn looked<H: NodeSide + Drop>(
         &mut self,
@@ -253,74 +273,75 @@ impl<'d> Link<'d> {
         host: &mut PartsHost<'_, H>,
     ) -> Step
         requires { H.ready host.old.inner }
-        ensures { H.ready host.new.inner }
+        ensures ready { H.ready host.new.inner }
+        ensures steps { StepsAnyhow H.side H.may host.old host.new
+            self.old.exchange out.old self.new.exchange out.new }
     {
-        self.pipe.rest_moves = looked.then == Then::Moves;
+        self.rest_moves = looked.then == Then::Moves;
         if !looked.is_apart {
             return looked.step;
         }
-        let reply = match self.pipe.exchange.first_request() {
-            Some(request) => host.answer_briefly(request),
-            None => None,
-        };
-        match reply {
-            Some(reply) => {
-                // It was asked for just now, so it is taken.
-                let _back = self.pipe.exchange.put_reply(reply);
-            }
-            None if self.pipe.exchange.first_request().is_some() => {
-                self.pipe.is_far = true;
-                return Step::GoesOn;
-            }
-            None => {}
+        if !self.answer_apart(host) {
+            self.is_far = true;
+            return Step::GoesOn;
         }
-        self.pipe.exchange.answer(false, out, host)
+        self.exchange.answer(false, out, host)
     }
 
     /// Notes what a read brought.
-    fn note_came(&mut self, moment: Moment, count: usize, room: usize) {
-        self.pipe.since = moment.now;
+    fn note_came(&mut self, moment: Moment, count: usize, room: usize)
+        ensures { self.new.exchange ≡ self.old.exchange }
+    {
+        self.since = moment.now;
         // A read that doesn't fill its buffer took all that had come: the system tells what comes next.
-        if count < room && !self.pipe.is_special {
-            self.pipe.is_readable = false;
+        if count < room && !self.is_special {
+            self.is_readable = false;
         }
     }
 
-    /// Reads once, and answers what is complete. `None` where nothing is there to read.
-    fn read<H: NodeSide + Drop>(
+    /// Notes when the frame began that isn't complete, or that is for another worker, where it began with so many bytes.
+    fn note_frame(&mut self, moment: Moment, count: usize)
+        ensures { self.new.exchange ≡ self.old.exchange }
+    {
+        if self.exchange.held() <= count as u64 {
+            self.frame_since = moment.now;
+        }
+    }
+
+    /// What a read of so much room came to: what is complete is answered. `None` where nothing was there.
+    fn take_came<H: NodeSide + Drop>(
         &mut self,
         moment: Moment,
-        piece: &mut Vec<u8>,
+        room: usize,
+        came: Came,
         out: &mut Vec<u8>,
         host: &mut PartsHost<'_, H>,
     ) -> Option<Step>
         requires { H.ready host.old.inner }
-        ensures { H.ready host.new.inner }
+        ensures ready { H.ready host.new.inner }
+        ensures steps { StepsAnyhow H.side H.may host.old host.new
+            self.old.exchange out.old self.new.exchange out.new }
     {
-        let room = piece.len().saturating_sub(LEAST_PIECE);
-        match self.pipe.read(moment.how(), out, host, piece) {
+        match came {
             Came::Bytes {
                 count,
                 first,
                 looked,
             } => {
                 self.note_came(moment, count, room);
-                self.pipe.note_first(first);
+                self.note_first(first);
                 let step = self.looked(looked, out, host);
-                // The frame that isn't complete, or that is for another worker, began with these bytes.
-                if self.pipe.exchange.held() <= count as u64 {
-                    self.pipe.frame_since = moment.now;
-                }
+                self.note_frame(moment, count);
                 Some(step)
             }
             Came::Nothing => {
-                self.pipe.is_readable = false;
+                self.is_readable = false;
                 None
             }
             Came::Again => Some(Step::GoesOn),
             Came::End(step) => Some(step),
             Came::Failed => {
-                self.pipe.exchange.cut(Ended::ReadFault);
+                self.exchange.cut(Ended::ReadFault);
                 Some(Step::Ended(Ended::ReadFault))
             }
         }
@@ -335,30 +356,28 @@ impl<'d> Link<'d> {
         host: &mut PartsHost<'_, H>,
     ) -> Option<Step>
         requires { H.ready host.old.inner }
-        ensures { H.ready host.new.inner }
+        ensures ready { H.ready host.new.inner }
+        ensures steps { StepsBy H.side H.may host.old host.new moment
+            self.old.exchange out.old self.new.exchange out.new }
     {
-        if self.pipe.is_full || self.pipe.has_waited || self.pipe.is_far {
-            self.pipe.is_far = false;
-            let has_waited = mem::replace(&mut self.pipe.has_waited, false);
-            return Some(self.pipe.exchange.answer(has_waited, out, host));
+        if self.is_full || self.has_waited || self.is_far {
+            self.is_far = false;
+            let has_waited = mem::replace(&mut self.has_waited, false);
+            return Some(self.exchange.answer(has_waited, out, host));
         }
-        if self.pipe.exchange.has_rest() {
-            let looked = self.pipe.exchange.take_rest(moment.how(), out, host);
+        if self.exchange.has_rest() {
+            let looked = self.exchange.take_rest(moment.how(), out, host);
             return Some(self.looked(looked, out, host));
         }
-        if !self.pipe.is_readable {
+        if !self.is_readable {
             return None;
         }
-        self.read(moment, piece, out, host)
-    }
-
-    /// Writes what stands after the turns of a round, and reserves room for what still does. Returns whether the connection has a turn
-    /// in the next one.
-    pub(crate) fn end_round(&mut self, now: u64) -> bool {
-        self.pipe.write(now);
-        self.reserve();
-        let is_stopped = self.pipe.has_unwritten() || self.pipe.has_more();
-        self.pipe.is_cut || self.pipe.exchange.is_writable() && is_stopped
+        let room = piece.len().saturating_sub(LEAST_PIECE);
+        let (socket, how) = (&mut self.socket, moment.how());
+        let came = self
+            .exchange
+            .read(socket, self.meters, how, piece, out, host);
+        self.take_came(moment, room, came, out, host)
     }
 
     /// One after the other what can be done now, until the session ends.
@@ -369,43 +388,70 @@ impl<'d> Link<'d> {
         out: &mut Vec<u8>,
         host: &mut PartsHost<'_, H>,
     ) -> Turn
-        requires { H.ready host.old.inner }
-        ensures { H.ready host.new.inner }
+        requires ready { H.ready host.old.inner }
+        requires empty { out.old.items ≡ [] }
+        ensures ready { H.ready host.new.inner }
+        ensures empty { out.new.items ≡ [] }
+        ensures steps { StepsBy H.side H.may host.old host.new moment
+            self.old.exchange out.old self.new.exchange out.new }
     {
         for _ in 0..MOST_READS {
-            if self.pipe.exchange.unwritten() > MOST_HELD {
-                return self.pipe.until_written();
+            if self.exchange.unwritten() > MOST_HELD {
+                return self.until_written();
             }
-            if self.pipe.has_to_move(moment) {
+            if self.has_to_move(moment) {
                 return Turn::Moves;
             }
-            let Some(step) = self.step(moment, piece, out, host) else {
-                return Turn::Waits;
-            };
+            let step = self.step(moment, piece, out, host);
             let has_answered = !out.is_empty();
-            let turn = self.pipe.note_step(step, moment.readable);
-            self.pipe.put(moment, out);
-            if self.pipe.has_ended() {
+            let turn = self.note_step(step, moment.readable);
+            self.put(moment, out);
+            if self.has_ended() {
                 return Turn::Again;
             }
             if let Some(turn) = turn {
                 return turn;
             }
-            if self.pipe.lets_others(has_answered) {
+            if self.lets_others(has_answered) {
                 return Turn::Again;
             }
         }
         Turn::Again
     }
 
+    /// What it does next, unless it was ended.
+    fn unless_cut(&self, turn: Turn) -> Turn {
+        if self.is_cut { Turn::Again } else { turn }
+    }
+}
+
+impl<'d> Link<'d> {
+    /// Writes what stands after the turns of a round, and reserves room for what still does. Returns whether the connection has a turn
+    /// in the next one.
+    pub(crate) fn end_round(&mut self, now: u64) -> bool
+        ensures stays { StaysBy self.old.pipe.exchange [] self.new.pipe.exchange [] }
+        ensures stage { self.new.stage ≡ self.old.stage }
+        ensures kept { KeptBeside self.old.kept self.new.kept }
+    {
+        self.pipe.write(now);
+        self.reserve();
+        let is_stopped = self.pipe.has_unwritten() || self.pipe.has_more();
+        self.pipe.is_cut || self.pipe.exchange.is_writable() && is_stopped
+    }
+
     /// Keeps what is kept beside the worker's seat.
-    fn keep(&mut self, kept: LinkState<'d>) {
+    fn keep(&mut self, kept: LinkState<'d>)
+        ensures { self.new ≡ record self.old { kept = Some kept.entry } }
+    {
         self.kept = Some(kept);
     }
 
     /// Keeps what is left of a session that has ended: pins that the node handed back are others' from now on.
-    fn let_go(&mut self, state: LinkState<'d>, left: &mut Vec<LinkState<'d>>) {
-        self.has_let_go = true;
+    fn let_go(&mut self, state: LinkState<'d>, left: &mut Vec<LinkState<'d>>)
+        ensures stays { StaysBy self.old.pipe.exchange [] self.new.pipe.exchange [] }
+        ensures over { own_of self.new ≡ None }
+    {
+        self.stage = Stage::Left;
         self.reserved = 0;
         if state.hold_count() > 0 {
             // Where memory runs out the pins stay in the node.
@@ -417,8 +463,12 @@ impl<'d> Link<'d> {
     }
 
     /// What it keeps, while it has its pins and what came in chunks.
-    fn take_kept(&mut self) -> Option<LinkState<'d>> {
-        if self.has_let_go {
+    fn take_kept(&mut self) -> Option<LinkState<'d>>
+        ensures same { self.new ≡ record self.old { kept = self.new.kept } }
+        ensures kept { IfSome result (λ kept. self.old.kept ≡ Some kept) }
+        ensures none { IfNone result (own_of self.new ≡ None) }
+    {
+        if matches!(self.stage, Stage::Left) {
             return None;
         }
         self.kept.take()
@@ -434,17 +484,20 @@ impl<'d> Link<'d> {
         host: H,
         left: &mut Vec<LinkState<'d>>,
     ) -> (Turn, H)
-        requires { H.ready host }
+        requires ready { H.ready host }
+        requires empty { out.old.items ≡ [] }
+        ensures empty { out.new.items ≡ [] }
+        ensures turn { Turned H.side H.may moment host self.old result.1 self.new }
     {
         self.pipe.write(moment.now);
         let Some(kept) = self.take_kept() else {
             return (self.pipe.linger(moment, piece), host);
         };
-        if self.pipe.has_ended() {
+        if !self.lives() || self.pipe.has_ended() {
             return self.end_session(moment, host, kept, left);
         }
         let mut both = PartsHost::new(host, kept);
-        let turn = self.steps(moment, piece, out, &mut both);
+        let turn = self.pipe.steps(moment, piece, out, &mut both);
         let (host, kept) = both.into_parts();
         if self.pipe.has_ended() {
             return self.end_session(moment, host, kept, left);
@@ -463,7 +516,11 @@ impl<'d> Link<'d> {
         left: &mut Vec<LinkState<'d>>,
     ) -> (Turn, H)
         requires { H.ready host }
+        ensures stays { StaysBy self.old.pipe.exchange [] self.new.pipe.exchange [] }
+        ensures over { own_of self.new ≡ None }
+        ensures seen { IsPrefix (H.side.list host) (H.side.list result.1) }
     {
+        self.stage = Stage::LetsGo;
         let is_few = kept.hold_count() <= FEW_PINS;
         if !is_few && !moment.lets_go {
             self.keep(kept);

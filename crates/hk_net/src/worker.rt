@@ -1,5 +1,8 @@
 //! A worker's connections, which of them wait, and its clock.
 
+ghost use Rattle.hk_net.specs.Connections.{Turned};
+
+use crate::client::Client;
 use crate::doors::Limits;
 use crate::link::{Link, Readiness};
 use crate::links::Links;
@@ -8,6 +11,7 @@ use crate::waiting::{Awaited, Waiting};
 use hk_budgets::PartsBudget;
 use hk_link_state::{LinkState, NodeSide};
 use hk_meters::Meters;
+use hk_node::NodeName;
 use hk_session_parts::Ended;
 use mio::Events;
 use std::alloc::Global;
@@ -24,10 +28,10 @@ const LOOK_PAUSE: u64 = 100;
 
 /// A worker's connections, which of them wait, and its buffers.
 #[derive(Drop)]
-pub(crate) struct Worker<'d> {
+pub(crate) struct Worker<'d, J: NodeName> {
     pub(crate) alloc: Global,
     pub(crate) number: usize,
-    pub(crate) links: Links<Link<'d>>,
+    pub(crate) links: Links<Client<'d, J>>,
     pub(crate) waiting: Waiting,
     pub(crate) piece: Vec<u8>,
     pub(crate) out: Vec<u8>,
@@ -43,14 +47,14 @@ pub(crate) struct Worker<'d> {
     pub(crate) behind: Option<usize>,
 }
 
-impl<'d> Worker<'d> {
+impl<'d, J: NodeName> Worker<'d, J> {
     /// A worker without connections, with a buffer for what it reads, and the door of the node that has yet to catch up.
     pub(crate) fn new(
         alloc: Global,
         number: usize,
         piece: Vec<u8>,
         behind: Option<usize>,
-    ) -> Worker<'d> {
+    ) -> Worker<'d, J> {
         Worker {
             alloc,
             number,
@@ -75,7 +79,10 @@ impl<'d> Worker<'d> {
         host: H,
     ) -> (Turn, H)
         requires { H.ready host }
+        ensures { Turned H.side H.may moment host link.old result.1 link.new }
     {
+        // Nothing is ready between two turns: what one connection is told is never another's.
+        self.out.clear();
         link.turn(moment, &mut self.piece, &mut self.out, host, &mut self.left)
     }
 
@@ -126,10 +133,10 @@ impl<'d> Worker<'d> {
                 is_closed: event.is_read_closed(),
                 is_broken: event.is_error() || event.is_write_closed(),
             };
-            let Some(link) = self.links.get_mut(token) else {
+            let Some(client) = self.links.get_mut(token) else {
                 continue;
             };
-            if link.pipe.note(told) {
+            if client.link.pipe.note(told) {
                 self.links.list(token);
             }
             if told.is_closed {
@@ -141,9 +148,10 @@ impl<'d> Worker<'d> {
 
     /// Has a connection that waits for a time wait no longer.
     fn end_wait(&mut self, token: usize) {
-        let Some(link) = self.links.get_mut(token) else {
+        let Some(client) = self.links.get_mut(token) else {
             return;
         };
+        let link = &mut client.link;
         let Some(awaited) = link.pipe.awaited.take() else {
             return;
         };
@@ -170,9 +178,10 @@ impl<'d> Worker<'d> {
             let Some(token) = self.links.in_round(at) else {
                 continue;
             };
-            let Some(link) = self.links.get_mut(token) else {
+            let Some(client) = self.links.get_mut(token) else {
                 continue;
             };
+            let link = &mut client.link;
             let has_turn = link.end_round(self.now);
             self.is_timed = self.is_timed || link.is_timed(limits);
             let is_writing = link.pipe.is_writing();
@@ -190,9 +199,10 @@ impl<'d> Worker<'d> {
         self.look = self.now.saturating_add(LOOK_PAUSE);
         let mut is_timed = false;
         for token in 0..self.links.len() {
-            let Some(link) = self.links.get_mut(token) else {
+            let Some(client) = self.links.get_mut(token) else {
                 continue;
             };
+            let link = &mut client.link;
             is_timed = is_timed || link.is_timed(limits);
             if let Some(ended) = link.over_time(self.now, limits) {
                 link.pipe.cut(ended);
@@ -203,8 +213,8 @@ impl<'d> Worker<'d> {
     }
 
     /// Puts a connection under its token, with a turn in the next round.
-    pub(crate) fn put_listed(&mut self, token: usize, link: Box<Link<'d>, Global>) {
-        self.links.put(token, link);
+    pub(crate) fn put_listed(&mut self, token: usize, client: Box<Client<'d, J>, Global>) {
+        self.links.put(token, client);
         self.links.list(token);
     }
 
@@ -218,28 +228,28 @@ impl<'d> Worker<'d> {
     }
 
     /// Puts a connection that stays under its token after its turn, as it wants.
-    pub(crate) fn settle(&mut self, token: usize, turn: Turn, link: Box<Link<'d>, Global>) {
+    pub(crate) fn settle(&mut self, token: usize, turn: Turn, client: Box<Client<'d, J>, Global>) {
         if let Turn::Parks {
             number,
             milliseconds,
         } = turn
         {
-            self.park(token, link, number, milliseconds);
+            self.park(token, client, number, milliseconds);
             return;
         }
         self.has_freed = self.has_freed || turn == Turn::Freed;
-        let is_writing = link.pipe.is_writing();
-        self.links.put(token, link);
+        let is_writing = client.link.pipe.is_writing();
+        self.links.put(token, client);
         if turn != Turn::Waits {
             self.list_by(token, is_writing);
         }
     }
 
     /// Ends a connection as it is, at its next turn.
-    pub(crate) fn cut(&mut self, token: usize, link: Box<Link<'d>, Global>) {
-        let mut link = link;
-        link.pipe.cut(Ended::Memory);
-        self.put_listed(token, link);
+    pub(crate) fn cut(&mut self, token: usize, client: Box<Client<'d, J>, Global>) {
+        let mut client = client;
+        client.link.pipe.cut(Ended::Memory);
+        self.put_listed(token, client);
     }
 
     /// Has a connection wait until a number is readable, or so many milliseconds are over. Where memory runs out for that it is
@@ -247,11 +257,11 @@ impl<'d> Worker<'d> {
     pub(crate) fn park(
         &mut self,
         token: usize,
-        link: Box<Link<'d>, Global>,
+        client: Box<Client<'d, J>, Global>,
         number: u64,
         milliseconds: u32,
     ) {
-        let mut link = link;
+        let mut client = client;
         // The clock's milliseconds are whole: one more, so that it waits no less.
         let until = self
             .now
@@ -259,11 +269,11 @@ impl<'d> Worker<'d> {
             .saturating_add(1);
         let awaited = Awaited { number, until };
         if self.waiting.add(token, awaited).is_ok() {
-            link.pipe.awaited = Some(awaited);
-            self.links.put(token, link);
+            client.link.pipe.awaited = Some(awaited);
+            self.links.put(token, client);
         } else {
-            link.pipe.has_waited = true;
-            self.put_listed(token, link);
+            client.link.pipe.has_waited = true;
+            self.put_listed(token, client);
         }
     }
 }
