@@ -6,9 +6,10 @@ use Rattle.std.proofs.lemmas.List.{take-append-drop}
 use Rattle.std.proofs.Math.Seq.{drop-length}
 use Rattle.hk_messages.specs.declared.request.Request.{Request}
 use Rattle.hk_messages.specs.declared.reply.Reply.{Reply}
-use Rattle.hk_session_parts.specs.Transcript.{May, Answers, IsPrefixOf, fault_of}
+use Rattle.hk_session_parts.specs.Transcript.{May, Answers, IsPrefixOf, fault_of, replies_bytes}
 use Rattle.hk_session_parts.specs.Sessions.{AnswersFirst, SessionValue, Takes, Closes, IsResting, first_of, Turns as SessionTurns}
 use Rattle.hk_session_parts.specs.declared.ended.Ended.{Ended}
+use Rattle.hk_session_parts.specs.declared.ended.Ended.TheVariants.{Clean, Fault, Memory, ReadFault, WriteFault}
 use Rattle.hk_session_parts.specs.declared.step.Step.{Step}
 use Rattle.hk_session_parts.specs.declared.step.Step.TheVariants as steps
 use Rattle.hk_doors.specs.declared.passes.Passes.{Passes}
@@ -18,15 +19,64 @@ use Rattle.hk_doors.specs.Handing.{HandsOn, HandsOnFirst, Place, inside}
 use Rattle.hk_doors.proofs.Handing.{hands_nothing}
 use Rattle.hk_doors.proofs.HandingLaws.{joins_law}
 use Rattle.hk_pipes.specs.Pipes.{Outgoing, text_of}
-use Rattle.hk_exchange.specs.Exchanges.{ExchangeValue, GotSo, Says, Said, SaysSo, TakesOn, Told, end_of, Goes, Went, Served, ServedLaw, Stands, Turns, Stays, start, waiting, behind_look}
-use Rattle.hk_exchange.proofs.Saying.{took, says_front, says_next, closed}
+use Rattle.hk_exchange.specs.Exchanges.{ExchangeValue, GotSo, Says, Said, SaidAll, SaysSo, TakesOn, Told, after_cut, after_drop, cut_by, end_of, Goes, Went, Served, ServedLaw, Stands, Turns, Stays, start, waiting, behind_look}
+use Rattle.hk_exchange.proofs.Saying.{took, says_front, says_next, closed, closed_all, unclean}
+
+-- ---- how it ended
+
+-- not cleanly
+abbrev pub IsUnclean : Option Ended → Type 0
+IsUnclean end = end ≢ Some Clean
+
+abbrev or_memory : Option Ended → Ended
+or_memory None = Memory
+or_memory (Some ended) = ended
+
+pub by_fault : (ended : Ended) → ended ≢ Clean → IsUnclean (Some ended)
+by_fault ended never is = never (ap or_memory is)
+
+goes_unclean : (end : Option Ended) → is_some end ≡ false → IsUnclean end
+goes_unclean end never is = true≢false (sym (ap is_some is) ∙ never)
+
+cut_unclean : (why : Ended) → cut_by why ≢ Clean
+cut_unclean Clean = unclean ReadFault refl
+cut_unclean (Fault f) = unclean (Fault f) refl
+cut_unclean Memory = unclean Memory refl
+cut_unclean ReadFault = unclean ReadFault refl
+cut_unclean WriteFault = unclean WriteFault refl
+
+-- a connection that is cut off ends so, or had ended
+pub cut_ends : (end : Option Ended) (why : Ended) → is_some (after_cut end why) ≡ true
+cut_ends None why = refl
+cut_ends (Some ended) why = refl
+
+pub cut_same : (end : Option Ended) (why : Ended) → IsUnclean (after_cut end why) ⊎ (after_cut end why ≡ end)
+cut_same None why = inl (by_fault (cut_by why) (cut_unclean why))
+cut_same (Some ended) why = inr refl
+
+pub drop_ends : (end : Option Ended) (why : Ended) → is_some (after_drop end why) ≡ true
+drop_ends None why = refl
+drop_ends (Some Clean) why = refl
+drop_ends (Some (Fault f)) why = refl
+drop_ends (Some Memory) why = refl
+drop_ends (Some ReadFault) why = refl
+drop_ends (Some WriteFault) why = refl
+
+pub drop_unclean : (end : Option Ended) (why : Ended) → IsUnclean (after_drop end why)
+drop_unclean None why = by_fault (cut_by why) (cut_unclean why)
+drop_unclean (Some Clean) why = by_fault (cut_by why) (cut_unclean why)
+drop_unclean (Some (Fault f)) why = by_fault (Fault f) (unclean (Fault f) refl)
+drop_unclean (Some Memory) why = by_fault Memory (unclean Memory refl)
+drop_unclean (Some ReadFault) why = by_fault ReadFault (unclean ReadFault refl)
+drop_unclean (Some WriteFault) why = by_fault WriteFault (unclean WriteFault refl)
 
 -- ---- one that goes on is one that went
 
 -- with nothing else changed but how its session ended, what was answered, and what was said
 went_with : (passes : Passes) (v w : ExchangeValue) (ready out : List ℕ) (asked more : List Request) (told all : List Reply) → w.came ≡ v.came → (g : Goes passes v ready asked told)
-    → Said more all (g.given ++ g.tail) (text_of w.out ++ out) → Went passes w out more all
-went_with passes v w ready out asked more told all came g said = record {
+    → Said more all (g.given ++ g.tail) (text_of w.out ++ out)
+    → (w.ended ≡ Some Clean → (v.begun ++ v.rest ≡ []) × SaidAll more all (g.given ++ g.tail) (text_of w.out ++ out)) → Went passes w out more all
+went_with passes v w ready out asked more told all came g said whole = record {
   passed = g.passed;
   given = g.given;
   tail = g.tail;
@@ -35,10 +85,12 @@ went_with passes v w ready out asked more told all came g said = record {
   hands = g.hands;
   split = came ∙ g.split;
   said = said;
+  whole = whole;
 }
 
-went : (passes : Passes) (v : ExchangeValue) (ready : List ℕ) (asked : List Request) (told : List Reply) → Goes passes v ready asked told → Went passes v ready asked told
-went passes v ready asked told g = went_with passes v v ready ready asked asked told told refl g (says_front asked told (g.given ++ g.tail) (text_of v.out ++ ready) v.session g.says)
+went : (passes : Passes) (v : ExchangeValue) (ready : List ℕ) (asked : List Request) (told : List Reply) → is_some v.ended ≡ false → Goes passes v ready asked told → Went passes v ready asked told
+went passes v ready asked told goes g =
+    went_with passes v v ready ready asked asked told told refl g (says_front asked told (g.given ++ g.tail) (text_of v.out ++ ready) v.session g.says) (λ is. absurd (goes_unclean v.ended goes is))
 
 -- the same of one that goes on still
 goes_with : (passes : Passes) (v : ExchangeValue) (session : SessionValue) (sent : Outgoing) (ended : Option Ended) (ready out : List ℕ) (asked more : List Request) (told all : List Reply) (g : Goes passes v ready asked told)
@@ -97,7 +149,7 @@ goes_behind passes v place begun rest got bytes piece out session asked told h e
 }
 
 went_behind : (passes : Passes) (v : ExchangeValue) (place : Place) (begun rest got bytes out : List ℕ) (session : SessionValue) (ended : Ended) (asked : List Request) (told : List Reply)
-    → Handed passes v place begun rest bytes → got ≡ bytes → Said asked told got (text_of v.out ++ out)
+    → Handed passes v place begun rest bytes → got ≡ bytes → Said asked told got (text_of v.out ++ out) × (ended ≢ Clean)
     → Went passes (after_look v place begun rest session (Some ended)) out asked told
 went_behind passes v place begun rest got bytes out session ended asked told h e said = record {
   passed = h.passed;
@@ -107,12 +159,13 @@ went_behind passes v place begun rest got bytes out session ended asked told h e
   there = place;
   hands = h.hands;
   split = h.split;
-  said = subst (λ (l : List ℕ). Said asked told l (text_of v.out ++ out)) (e ∙ h.is) said;
+  said = subst (λ (l : List ℕ). Said asked told l (text_of v.out ++ out)) (e ∙ h.is) said.0;
+  whole = λ is. absurd (by_fault ended said.1 is);
 }
 
 -- one that is over, and didn't get the piece
 went_before : (passes : Passes) (v : ExchangeValue) (place : Place) (begun rest bytes got ready out : List ℕ) (session : SessionValue) (ended : Ended) (asked qs : List Request) (told rs : List Reply)
-    → (g : Goes passes (waiting v bytes) ready asked told) → got ≡ g.given ++ g.tail → Said (asked ++ qs) (told ++ rs) got (text_of v.out ++ out)
+    → (g : Goes passes (waiting v bytes) ready asked told) → got ≡ g.given ++ g.tail → Said (asked ++ qs) (told ++ rs) got (text_of v.out ++ out) × (ended ≢ Clean)
     → Went passes (after_look v place begun rest session (Some ended)) out (asked ++ qs) (told ++ rs)
 went_before passes v place begun rest bytes got ready out session ended asked qs told rs g e said = record {
   passed = g.passed;
@@ -122,7 +175,8 @@ went_before passes v place begun rest bytes got ready out session ended asked qs
   there = g.there;
   hands = g.hands;
   split = g.split;
-  said = subst (λ (l : List ℕ). Said (asked ++ qs) (told ++ rs) l (text_of v.out ++ out)) e said;
+  said = subst (λ (l : List ℕ). Said (asked ++ qs) (told ++ rs) l (text_of v.out ++ out)) e said.0;
+  whole = λ is. absurd (by_fault ended said.1 is);
 }
 
 stood : (passes : Passes) (v : ExchangeValue) (place : Place) (begun rest bytes got piece ready out : List ℕ) (session : SessionValue) (step : Step) (asked qs : List Request) (told rs : List Reply)
@@ -240,7 +294,8 @@ answered_so passes v got ready out session steps.Full asked qs told rs g says e 
 answered_so passes v got ready out session (steps.Waits t milliseconds) asked qs told rs g says e =
     goes_with passes v session v.out None ready out asked (asked ++ qs) told (told ++ rs) g (subst (λ (l : List ℕ). Says (asked ++ qs) (told ++ rs) l (text_of v.out ++ out) session) e says)
 answered_so passes v got ready out session (steps.Ended ended) asked qs told rs g said e =
-    went_with passes v (after_step v session (Some ended)) ready out asked (asked ++ qs) told (told ++ rs) refl g (subst (λ (l : List ℕ). Said (asked ++ qs) (told ++ rs) l (text_of v.out ++ out)) e said)
+    went_with passes v (after_step v session (Some ended)) ready out asked (asked ++ qs) told (told ++ rs) refl g (subst (λ (l : List ℕ). Said (asked ++ qs) (told ++ rs) l (text_of v.out ++ out)) e said.0)
+    (λ is. absurd (by_fault ended said.1 is))
 
 got_nothing : (step : Step) (got bytes : List ℕ) → GotSo step got bytes [] → got ≡ bytes
 got_nothing steps.GoesOn got bytes e = e ∙ append-nil bytes
@@ -323,10 +378,12 @@ module _ (passes : Passes) (v : ExchangeValue) (ready : List ℕ) (asked : List 
     there = g.there;
     hands = g.hands;
     split = ended_parts;
-    said = subst (λ (l : List ℕ). Said (asked ++ qs) (told ++ rs) l (text_of v.out ++ out)) (e ∙ append_assoc g.given g.tail v.begun) said;
+    said = subst (λ (l : List ℕ). Said (asked ++ qs) (told ++ rs) l (text_of v.out ++ out)) (e ∙ append_assoc g.given g.tail v.begun) said.0;
+    whole = λ is. absurd (by_fault ended said.1 is);
   }
   end_stands got out session (steps.Ended ended) qs rs said (inr e) =
-      went_with passes v (at_end v place begun session (Some ended)) ready out asked (asked ++ qs) told (told ++ rs) refl g (subst (λ (l : List ℕ). Said (asked ++ qs) (told ++ rs) l (text_of v.out ++ out)) e said)
+      went_with passes v (at_end v place begun session (Some ended)) ready out asked (asked ++ qs) told (told ++ rs) refl g (subst (λ (l : List ℕ). Said (asked ++ qs) (told ++ rs) l (text_of v.out ++ out)) e said.0)
+      (λ is. absurd (by_fault ended said.1 is))
 
 pub ended_input : {H : Type 0} (may : May H) (old new : H) (passes : Passes) (v : ExchangeValue) (place : Place) (begun ready out : List ℕ) (session : SessionValue) (step : Step)
     → v.ended ≡ None → begun ≡ [] → Takes 2 may old new v.session session v.begun false ready out step → Turns may old new passes v ready (at_end v place begun session (end_of step)) out
@@ -340,15 +397,19 @@ pub rests : {H : Type 0} (may : May H) (old new : H) (s r : SessionValue) (piece
 rests may old new s r piece ready out w step goes (inl (read, k, t)) = (subst (λ (b : Step). SessionTurns may old new read r w ready out b) goes t).1
 rests may old new s r piece ready out w step goes (inr (is, same, kept, none)) = absurd (false≢true (ap (λ (b : Step). is_some (end_of b)) (sym goes ∙ is)))
 
--- a session that rests, and is finished
+nothing_waits : (begun rest : List ℕ) → begun ≡ [] → rest ≡ [] → begun ++ rest ≡ []
+nothing_waits begun rest none empty = ap (λ (l : List ℕ). l ++ rest) none ∙ empty
+
+-- a session that rests, and is finished, with nothing more to be handed on
 pub finished : {H : Type 0} (may : May H) (old new : H) (passes : Passes) (v w : ExchangeValue) (before ready out : List ℕ) (ended : Ended) (fresh : SessionValue)
-    → Turns may old new passes v before w ready → w.ended ≡ None → IsResting w.session → Closes (fault_of w.session.left) ready out ended
+    → Turns may old new passes v before w ready → w.ended ≡ None → w.begun ≡ [] → w.rest ≡ [] → IsResting w.session → Closes (fault_of w.session.left) ready out ended
     → Turns may old new passes v before (after_step w fresh (Some ended)) out
-finished may old new passes v w before ready out ended fresh turns goes rests closes asked told stands =
+finished may old new passes v w before ready out ended fresh turns goes none empty rests closes asked told stands =
     let t = turns asked told stands in
     let g = goes_of passes w ready (asked ++ t.0) (told ++ t.1) goes t.3 in
     let said = closed (asked ++ t.0) (told ++ t.1) (g.given ++ g.tail) (text_of w.out) ready out w.session ended g.says rests.0 rests.1 closes in
-    (t.0, t.1, t.2, went_with passes w (after_step w fresh (Some ended)) ready out (asked ++ t.0) (asked ++ t.0) (told ++ t.1) (told ++ t.1) refl g said)
+    let all = λ (is : Some ended ≡ Some Clean). closed_all (asked ++ t.0) (told ++ t.1) (g.given ++ g.tail) (text_of w.out) ready out w.session ended g.says rests.0 rests.1 closes (ap or_memory is) in
+    (t.0, t.1, t.2, went_with passes w (after_step w fresh (Some ended)) ready out (asked ++ t.0) (asked ++ t.0) (told ++ t.1) (told ++ t.1) refl g said (λ is. (nothing_waits w.begun w.rest none empty, all is)))
 
 -- ---- what is written
 
@@ -369,6 +430,7 @@ put_so passes v ready out sent same asked told stands =
       hands = w.hands;
       split = w.split;
       said = subst (λ (l : List ℕ). Said asked told (w.given ++ w.tail) l) (sym same) w.said;
+      whole = λ is. ((w.whole is).0, ((w.whole is).1.0, same ∙ (w.whole is).1.1));
     })
     (λ (g : Goes passes v ready asked told). goes_with passes v v.session sent v.ended ready out asked asked told told g (subst (λ (l : List ℕ). Says asked told (g.given ++ g.tail) l v.session) (sym same) g.says))
     stands
@@ -382,14 +444,27 @@ shorter asked told bytes text part h front = record {
   front = (front.0 ++ h.front.0, sym (append_assoc part front.0 h.front.0) ∙ ap (λ (l : List ℕ). l ++ h.front.0) front.1 ∙ h.front.1);
 }
 
-any_went : (passes : Passes) (v : ExchangeValue) (ready : List ℕ) (asked : List Request) (told : List Reply) (b : Bool) → MatchBool b (Went passes v ready asked told) (Goes passes v ready asked told) → Went passes v ready asked told
-any_went passes v ready asked told true h = h
-any_went passes v ready asked told false h = went passes v ready asked told h
+any_went : (passes : Passes) (v : ExchangeValue) (ready : List ℕ) (asked : List Request) (told : List Reply) (b : Bool) → is_some v.ended ≡ b → MatchBool b (Went passes v ready asked told) (Goes passes v ready asked told)
+    → Went passes v ready asked told
+any_went passes v ready asked told true is h = h
+any_went passes v ready asked told false is h = went passes v ready asked told is h
+
+-- not cleanly, or as before and with the same that was said
+abbrev pub EndsSo : ExchangeValue → List ℕ → ExchangeValue → List ℕ → Type 0
+EndsSo v ready w out = IsUnclean w.ended ⊎ ((w.ended ≡ v.ended) × (text_of w.out ++ out ≡ text_of v.out ++ ready))
+
+still_whole : (v w : ExchangeValue) (ready out bytes dropped : List ℕ) (asked : List Request) (told : List Reply) → EndsSo v ready w out
+    → (v.ended ≡ Some Clean → (dropped ≡ []) × SaidAll asked told bytes (text_of v.out ++ ready)) → w.ended ≡ Some Clean → (dropped ≡ []) × SaidAll asked told bytes (text_of w.out ++ out)
+still_whole v w ready out bytes dropped asked told (inl never) whole is = absurd (never is)
+still_whole v w ready out bytes dropped asked told (inr (ended, same)) whole is =
+    let h = whole (sym ended ∙ is) in
+    (h.0, (h.1.0, same ∙ h.1.1))
 
 -- it is over, and of what was said a front is left
-pub cut_so : (passes : Passes) (v w : ExchangeValue) (ready out : List ℕ) → w.came ≡ v.came → is_some w.ended ≡ true → IsPrefixOf (text_of w.out ++ out) (text_of v.out ++ ready) → Stays passes v ready w out
-cut_so passes v w ready out came over front asked told stands =
-    let h = any_went passes v ready asked told (is_some v.ended) stands in
+pub cut_so : (passes : Passes) (v w : ExchangeValue) (ready out : List ℕ) → w.came ≡ v.came → is_some w.ended ≡ true → EndsSo v ready w out → IsPrefixOf (text_of w.out ++ out) (text_of v.out ++ ready)
+    → Stays passes v ready w out
+cut_so passes v w ready out came over ends front asked told stands =
+    let h = any_went passes v ready asked told (is_some v.ended) refl stands in
     let is : Went passes w out asked told = record {
       passed = h.passed;
       given = h.given;
@@ -399,6 +474,7 @@ cut_so passes v w ready out came over front asked told stands =
       hands = h.hands;
       split = came ∙ h.split;
       said = shorter asked told (h.given ++ h.tail) (text_of v.out ++ ready) (text_of w.out ++ out) h.said front;
+      whole = still_whole v w ready out (h.given ++ h.tail) h.dropped asked told ends h.whole;
     } in
     subst (λ (b : Bool). MatchBool b (Went passes w out asked told) (Goes passes w out asked told)) (sym over) is
 
@@ -447,20 +523,38 @@ look_out v Reads l = refl
 look_out v Pauses l = refl
 look_out v Moves l = refl
 
--- it is over, with the same
-pub over_with : (passes : Passes) (v w : ExchangeValue) (ready : List ℕ) → w.came ≡ v.came → w.out ≡ v.out → is_some w.ended ≡ true → Stays passes v ready w ready
-over_with passes v w ready came out over =
-    cut_so passes v w ready ready came over ([], append-nil (text_of w.out ++ ready) ∙ ap (λ (o : Outgoing). text_of o ++ ready) out)
+look_ended : (v : ExchangeValue) (then : Then) (l : List ℕ) → (behind_look v then l).ended ≡ v.ended
+look_ended v Reads l = refl
+look_ended v Pauses l = refl
+look_ended v Moves l = refl
 
-pub over_behind : (passes : Passes) (v w : ExchangeValue) (then : Then) (l ready : List ℕ) → w.came ≡ v.came → w.out ≡ v.out → is_some w.ended ≡ true → Stays passes (behind_look v then l) ready w ready
-over_behind passes v w then l ready came out over =
-    over_with passes (behind_look v then l) w ready (came ∙ sym (look_came v then l)) (out ∙ sym (look_out v then l)) over
+ends_with : (v w : ExchangeValue) (ready : List ℕ) (why : Ended) → w.out ≡ v.out → w.ended ≡ after_cut v.ended why → IsUnclean (after_cut v.ended why) ⊎ (after_cut v.ended why ≡ v.ended) → EndsSo v ready w ready
+ends_with v w ready why out is (inl never) = inl (λ clean. never (sym is ∙ clean))
+ends_with v w ready why out is (inr same) = inr (is ∙ same, ap (λ (o : Outgoing). text_of o ++ ready) out)
+
+-- it is cut off, with the same
+pub over_with : (passes : Passes) (v w : ExchangeValue) (ready : List ℕ) (why : Ended) → w.came ≡ v.came → w.out ≡ v.out → w.ended ≡ after_cut v.ended why → Stays passes v ready w ready
+over_with passes v w ready why came out is =
+    cut_so passes v w ready ready came (ap is_some is ∙ cut_ends v.ended why) (ends_with v w ready why out is (cut_same v.ended why)) ([], append-nil (text_of w.out ++ ready) ∙ ap (λ (o : Outgoing). text_of o ++ ready) out)
+
+pub over_behind : (passes : Passes) (v w : ExchangeValue) (then : Then) (l ready : List ℕ) (why : Ended) → w.came ≡ v.came → w.out ≡ v.out → w.ended ≡ after_cut v.ended why → Stays passes (behind_look v then l) ready w ready
+over_behind passes v w then l ready why came out is =
+    over_with passes (behind_look v then l) w ready why (came ∙ sym (look_came v then l)) (out ∙ sym (look_out v then l)) (is ∙ ap (λ (e : Option Ended). after_cut e why) (sym (look_ended v then l)))
+
+-- it is over, and what stood is dropped
+pub dropped_with : (passes : Passes) (v w : ExchangeValue) (ready out : List ℕ) (why : Ended) → w.came ≡ v.came → w.ended ≡ after_drop v.ended why → IsPrefixOf (text_of w.out ++ out) (text_of v.out ++ ready) → Stays passes v ready w out
+dropped_with passes v w ready out why came is front =
+    cut_so passes v w ready out came (ap is_some is ∙ drop_ends v.ended why) (inl (λ clean. drop_unclean v.ended why (sym is ∙ clean))) front
 
 -- ---- what the socket took
 
+-- all that was said was taken
+all_taken : (o : Outgoing) (ready : List ℕ) → o.standing ≡ [] → ready ≡ [] → o.sent ≡ text_of o ++ ready
+all_taken o ready none empty = sym (append-nil o.sent) ∙ ap (λ (l : List ℕ). o.sent ++ l) (sym none) ∙ sym (append-nil (text_of o)) ∙ ap (λ (l : List ℕ). text_of o ++ l) (sym empty)
+
 pub served : ServedLaw
 served passes v ready asked told stands =
-    let h = any_went passes v ready asked told (is_some v.ended) stands in
+    let h = any_went passes v ready asked told (is_some v.ended) refl stands in
     record {
       passed = h.passed;
       given = h.given;
@@ -470,6 +564,7 @@ served passes v ready asked told stands =
       hands = h.hands;
       split = h.split;
       said = shorter asked told (h.given ++ h.tail) (text_of v.out ++ ready) v.out.sent h.said (v.out.standing ++ ready, sym (append_assoc v.out.sent v.out.standing ready));
+      whole = λ is none empty. ((h.whole is).0, ((h.whole is).1.0, all_taken v.out ready none empty ∙ (h.whole is).1.1));
     }
 
 -- ---- at the start

@@ -1,5 +1,5 @@
 -- What a connection's socket took, by what it gave.
-use Rattle.std.specs.Prelude.{◌≡◌, ◌⊎◌, ◌<◌, ℕ, ◌+◌, ◌-◌, ◌||◌, min, nat_lt, Bool, true, false, MatchBool, List, [], ◌∷◌, ◌++◌, length, drop, Option, None, Some, is_some, option_to_list, Result, Ok}
+use Rattle.std.specs.Prelude.{◌≡◌, ◌≢◌, ◌⊎◌, ◌<◌, ℕ, ◌+◌, ◌-◌, ◌||◌, min, nat_lt, Bool, true, false, MatchBool, List, [], ◌∷◌, ◌++◌, length, drop, Option, None, Some, is_some, option_to_list, Result, Ok}
 use Rattle.std.specs.Global.{Vec}
 use Rattle.hk_types.specs.declared.faults.FormFault.{FormFault}
 use Rattle.hk_messages.specs.declared.request.Request.{Request}
@@ -10,6 +10,7 @@ use Rattle.hk_session_parts.specs.Sessions.{IsStanding, SessionValue, begun_byte
 use Rattle.hk_session_parts.specs.declared.step.Step.{Step}
 use Rattle.hk_session_parts.specs.declared.step.Step.TheVariants.{Ended as EndedSo}
 use Rattle.hk_session_parts.specs.declared.ended.Ended.{Ended}
+use Rattle.hk_session_parts.specs.declared.ended.Ended.TheVariants.{Clean, ReadFault}
 use Rattle.hk_doors.specs.declared.passes.Passes.{Passes}
 use Rattle.hk_doors.specs.declared.frame_watch.Taken.{Taken}
 use Rattle.hk_doors.specs.declared.frame_watch.Then.{Then}
@@ -73,9 +74,13 @@ pub record Said (asked : List Request) (told : List Reply) (bytes text : List �
   pub reads : ReadsRequests 2 bytes (asked ++ waiting) left
   pub front : IsPrefixOf text (replies_bytes told ++ closing_bytes left)
 
--- the one or the other, by the last step
+-- All requests that these bytes encode were answered so, one each and in order, no other byte is there, and the text is just the replies.
+abbrev pub SaidAll : List Request → List Reply → List ℕ → List ℕ → Type 0
+SaidAll asked told bytes text = ReadsRequests 2 bytes asked (Ok []) × (text ≡ replies_bytes told)
+
+-- the one or the other, by the last step, none of which is a clean end
 abbrev pub SaysSo : Step → List Request → List Reply → List ℕ → List ℕ → SessionValue → Type 0
-SaysSo (EndedSo ended) asked told bytes text s = Said asked told bytes text
+SaysSo (EndedSo ended) asked told bytes text s = Said asked told bytes text × (ended ≢ Clean)
 SaysSo step asked told bytes text s = Says asked told bytes text s
 
 -- which bytes a session got after a piece: that one too, or, where memory ran out, not that one
@@ -112,7 +117,7 @@ pub record Goes (passes : Passes) (v : ExchangeValue) (ready : List ℕ) (asked 
   pub one : (v.begun ≡ []) ⊎ (v.rest ≡ [])
   pub says : Says asked told (given ++ tail) (text_of v.out ++ ready) v.session
 
--- The same of one that is over: some of what came isn't handed on.
+-- The same of one that is over: some of what came isn't handed on, unless its peer ended it between two requests.
 pub record Went (passes : Passes) (v : ExchangeValue) (ready : List ℕ) (asked : List Request) (told : List Reply) : Type 0 where
   pub passed : List ℕ
   pub given : List ℕ
@@ -122,6 +127,7 @@ pub record Went (passes : Passes) (v : ExchangeValue) (ready : List ℕ) (asked 
   pub hands : HandsOn passes (inside 0 0) passed given there
   pub split : v.came ≡ passed ++ (tail ++ dropped)
   pub said : Said asked told (given ++ tail) (text_of v.out ++ ready)
+  pub whole : v.ended ≡ Some Clean → (dropped ≡ []) × SaidAll asked told (given ++ tail) (text_of v.out ++ ready)
 
 abbrev pub Stands : Passes → ExchangeValue → List ℕ → List Request → List Reply → Type 0
 Stands passes v ready asked told = MatchBool (is_some v.ended) (Went passes v ready asked told) (Goes passes v ready asked told)
@@ -133,6 +139,21 @@ Turns {H} may old new passes before ready after out =
     → (qs : List Request) × (rs : List Reply) × Answers may old qs rs new × Stands passes after out (asked ++ qs) (told ++ rs)
 
 -- ---- how many bytes it holds
+
+-- how a connection is told to have ended that is cut off for this: cleanly by its session alone
+abbrev pub cut_by : Ended → Ended
+cut_by Clean = ReadFault
+cut_by ended = ended
+
+-- a cut ends what goes on, and nothing else
+abbrev pub after_cut : Option Ended → Ended → Option Ended
+after_cut None why = Some (cut_by why)
+after_cut (Some ended) why = Some ended
+
+-- one whose replies are dropped didn't end cleanly
+abbrev pub after_drop : Option Ended → Ended → Option Ended
+after_drop (Some Clean) why = Some (cut_by why)
+after_drop ended why = after_cut ended why
 
 -- whether the connection is inside of a frame
 abbrev pub is_within : ExchangeValue → Bool
@@ -212,6 +233,14 @@ StaysBy before ready after out = (passes : Passes) → Stays passes (value_of be
 abbrev pub ChangesSession : Exchange → Exchange → Type 0
 ChangesSession before after = value_of after ≡ record (value_of before) { session = (value_of after).session }
 
+-- it is cut off for this, and else the same
+abbrev pub CutsOff : Exchange → Ended → Exchange → Type 0
+CutsOff before why after = value_of after ≡ record (value_of before) { ended = after_cut (value_of before).ended why }
+
+-- and so where what was said won't be written
+abbrev pub CutsShort : Exchange → Ended → Exchange → Type 0
+CutsShort before why after = value_of after ≡ record (value_of before) { ended = after_drop (value_of before).ended why }
+
 abbrev pub ToldBy : Exchange → Exchange → Reply → Type 0
 ToldBy before after reply = Told (value_of before) (value_of after) reply
 
@@ -231,8 +260,9 @@ LeavesFrom then place len from =
 -- ---- laws
 
 -- What the socket took is a front of the replies to the first of the requests that the session got, one each and in order, and of what says which fault follows
--- them. What it got is what came, as the door judges it, and at the end as it is; some of what came it may not have got yet.
-pub record Served (passes : Passes) (v : ExchangeValue) (asked : List Request) (told : List Reply) : Type 0 where
+-- them. What it got is what came, as the door judges it, and at the end as it is; some of what came it may not have got yet. Where the peer ended the connection
+-- between two requests, and the socket took all that was said, it got all that came, and the socket took just the replies to all of its requests.
+pub record Served (passes : Passes) (v : ExchangeValue) (ready : List ℕ) (asked : List Request) (told : List Reply) : Type 0 where
   pub passed : List ℕ
   pub given : List ℕ
   pub tail : List ℕ
@@ -241,6 +271,7 @@ pub record Served (passes : Passes) (v : ExchangeValue) (asked : List Request) (
   pub hands : HandsOn passes (inside 0 0) passed given there
   pub split : v.came ≡ passed ++ (tail ++ others)
   pub said : Said asked told (given ++ tail) v.out.sent
+  pub whole : v.ended ≡ Some Clean → v.out.standing ≡ [] → ready ≡ [] → (others ≡ []) × SaidAll asked told (given ++ tail) v.out.sent
 
 abbrev pub ServedLaw : Type 0
-ServedLaw = (passes : Passes) (v : ExchangeValue) (ready : List ℕ) (asked : List Request) (told : List Reply) → Stands passes v ready asked told → Served passes v asked told
+ServedLaw = (passes : Passes) (v : ExchangeValue) (ready : List ℕ) (asked : List Request) (told : List Reply) → Stands passes v ready asked told → Served passes v ready asked told

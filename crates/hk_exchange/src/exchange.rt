@@ -1,8 +1,8 @@
 //! What is between a connection's socket and the host that answers it.
 
-ghost use Rattle.std.specs.Prelude.{◌≡◌, ◌<◌, ◌≤◌, ◌+◌, ℕ, List, [], ◌++◌, true, false, length, take, drop, None, Some, is_some, IfNone, IfOk, IfSome};
+ghost use Rattle.std.specs.Prelude.{◌≡◌, ◌<◌, ◌≤◌, ◌+◌, ℕ, List, [], ◌++◌, true, false, length, take, drop, None, Some, IfNone, IfOk, IfSome};
 ghost use Rattle.hk_session_parts.specs.Sessions.{AnswersFirst};
-ghost use Rattle.hk_exchange.specs.Exchanges.{ChangesSession, HasStanding, HoldsAll, HoldsOfFrame, IsNext, KeepsBy, LeavesFrom, LooksBy, LooksFrom, ReceivesBy, SendsBy, StaysBy, StaysReady, TakesBy, ToldBy, TurnsAnyhow, TurnsBy, end_of, is_within, start, value_of};
+ghost use Rattle.hk_exchange.specs.Exchanges.{ChangesSession, CutsOff, CutsShort, HasStanding, HoldsAll, HoldsOfFrame, IsNext, KeepsBy, LeavesFrom, LooksBy, LooksFrom, ReceivesBy, SendsBy, StaysBy, StaysReady, TakesBy, ToldBy, TurnsAnyhow, TurnsBy, cut_by, end_of, is_within, start, value_of};
 
 use hk_doors::{FrameWatch, Passes, Taken, Then};
 use hk_messages::{Reply, Request};
@@ -99,6 +99,16 @@ fn came_of(kind: ErrorKind) -> Came {
         ErrorKind::WouldBlock => Came::Nothing,
         ErrorKind::Interrupted => Came::Again,
         _ => Came::Failed,
+    }
+}
+
+/// How a connection ended that is cut off for this: only a session ends cleanly.
+fn cut_by(ended: Ended) -> Ended
+    ensures { result ≡ cut_by ended }
+{
+    match ended {
+        Ended::Clean => Ended::ReadFault,
+        other => other,
     }
 }
 
@@ -529,22 +539,33 @@ impl Exchange {
         self.unwritten.take_sent()
     }
 
-    /// Ends it as it is. A session that had ended keeps how it ended. What is ready then isn't written.
+    /// Ends it as it is. A session that had ended keeps how it ended. What is ready then isn't written. Only a session ends cleanly: a
+    /// cut for `Clean` is one for `ReadFault`.
     pub fn cut(&mut self, ended: Ended)
         ensures stays { StaysReady self.old self.new }
-        ensures over { is_some (value_of self.new).ended ≡ true }
-        ensures same { value_of self.new ≡ record (value_of self.old) { ended = (value_of self.new).ended } }
+        ensures value { CutsOff self.old ended self.new }
     {
         if self.ended.is_none() {
-            self.ended = Some(ended);
+            self.ended = Some(cut_by(ended));
         }
     }
 
-    /// Ends it as it is, and drops what it holds.
+    /// The same where what was said won't be written: a session that had ended cleanly ends so too.
+    fn cut_short(&mut self, ended: Ended)
+        ensures value { CutsShort self.old ended self.new }
+    {
+        match self.ended {
+            None | Some(Ended::Clean) => self.ended = Some(cut_by(ended)),
+            Some(_) => {}
+        }
+    }
+
+    /// Ends it as it is, and drops what it holds. A session that had ended keeps how it ended, unless that was cleanly: its peer won't have
+    /// all replies.
     pub fn drop_all(&mut self, ended: Ended)
         ensures { StaysBy self.old [] self.new [] }
     {
-        self.cut(ended);
+        self.cut_short(ended);
         self.unwritten.drop_all();
         self.rest.drop_all();
         self.session = LinkSession::new(self.alloc);
@@ -559,7 +580,7 @@ impl Exchange {
     }
 
     /// Puts what a step added behind what stands, and empties it, as `Unwritten::put`. Where that fails the connection ends, with
-    /// `WriteFault`, and what stands is dropped. Cost: as there.
+    /// `WriteFault`, and what stands is dropped; one whose session had ended cleanly ends so too. Cost: as there.
     pub fn put<S: Write>(&mut self, socket: &mut S, out: &mut Vec<u8>, at_once: bool) -> bool
         ensures stays { StaysBy self.old out.old.items self.new [] }
         ensures empty { out.new.items ≡ [] }
@@ -567,7 +588,7 @@ impl Exchange {
     {
         let is_well = self.unwritten.put(socket, out, at_once);
         if !is_well {
-            self.cut(Ended::WriteFault);
+            self.cut_short(Ended::WriteFault);
             self.unwritten.drop_all();
         }
         is_well

@@ -28,5 +28,7 @@ returns-clause-turns g c passes =
     let session = ap (λ (v : ExchangeValue). v.session) c.noted-step.ensures.noted in
     let resting = rests g.H.Host.may c.args.host.now t.new.host c.args.self.now.session t.new.self c.args.self.now.watch.begun c.args.out.now.items t.new.out.items false t.result goes takes in
     let none = ap (λ (v : ExchangeValue). v.ended) c.noted-step.ensures.noted ∙ ap end_of goes in
+    let begun = ap (λ (v : ExchangeValue). v.begun) c.noted-step.ensures.noted ∙ c.new-self.ensures.begun in
+    let rest = ap (λ (v : ExchangeValue). v.rest) c.noted-step.ensures.noted ∙ c.requires.rest in
     let closes = subst (λ (s : SessionValue). Closes (fault_of s.left) t.new.out.items c.finish-ended.new.out.items c.finish-ended.result) c.replace.ensures.value c.finish-ended.ensures in
-    finished g.H.Host.may c.args.host.now t.new.host passes before after c.args.out.now.items t.new.out.items c.finish-ended.new.out.items c.finish-ended.result c.replace.new.dest turns none (subst IsResting (sym session) resting) closes
+    finished g.H.Host.may c.args.host.now t.new.host passes before after c.args.out.now.items t.new.out.items c.finish-ended.new.out.items c.finish-ended.result c.replace.new.dest turns none begun rest (subst IsResting (sym session) resting) closes

@@ -1,7 +1,8 @@
 use Rattle.std.proofs.Common.{List, ℕ, length, take, drop, ◌-◌, ap, subst, ◌∙◌}
 use Rattle.std.proofs.lemmas.List.{take_rest}
 use Rattle.hk_exchange.specs.declared.exchange.Exchange.{Exchange}
-use Rattle.hk_exchange.specs.Exchanges.{ExchangeValue, Stays, Turns, behind_look, value_of, waiting}
+use Rattle.hk_session_parts.specs.declared.ended.Ended.TheVariants.{ReadFault}
+use Rattle.hk_exchange.specs.Exchanges.{ExchangeValue, Stays, Turns, after_cut, behind_look, value_of, waiting}
 use Rattle.hk_exchange.proofs.Standing.{nothing_done, over_with, then_stays}
 use Rattle.hk_exchange.proofs.exchange.Exchange.receive.Goals as goal
 
@@ -10,10 +11,13 @@ returns-then-reads_too_often-clause-turns g c =
     let passes = c.args.how.passes in
     let v = waiting (value_of c.args.self.now) c.args.piece.now in
     let out = c.args.out.now.items in
-    let came = ap (λ (w : ExchangeValue). w.came) c.cut.ensures.same ∙ ap (λ (e : Exchange). (value_of e).came) c.reads_too_often.ensures in
-    let sent = ap (λ (w : ExchangeValue). w.out) c.cut.ensures.same ∙ ap (λ (e : Exchange). (value_of e).out) c.reads_too_often.ensures in
+    let is = c.cut.ensures.value in
+    let before = c.reads_too_often.ensures in
+    let came = ap (λ (w : ExchangeValue). w.came) is ∙ ap (λ (e : Exchange). (value_of e).came) before in
+    let sent = ap (λ (w : ExchangeValue). w.out) is ∙ ap (λ (e : Exchange). (value_of e).out) before in
+    let ended = ap (λ (w : ExchangeValue). w.ended) is ∙ ap (λ (e : Exchange). after_cut (value_of e).ended ReadFault) before in
     then_stays g.H.Host.may c.args.host.now c.args.host.now passes v v (value_of c.cut.new.self) out out out (nothing_done g.H.Host.may c.args.host.now passes v out)
-    (over_with passes v (value_of c.cut.new.self) out came sent c.cut.ensures.over)
+    (over_with passes v (value_of c.cut.new.self) out ReadFault came sent ended)
 
 pub returns-clause-turns : goal.returns-clause-turns
 returns-clause-turns g c =
