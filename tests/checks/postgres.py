@@ -318,6 +318,13 @@ def float_of(text):
     return text if text in (None, "NaN", "Infinity", "-Infinity", "-0") else float(text)
 
 
+def last_by_clock(base, clock):
+    """The last moment with no commit behind a time of the clock, found by asking for each. It is that of the load itself, unless the machine's clock
+    was set back between the load's end and the next commit."""
+    ends = range(va.last_time(1), base.moment() + 1, va.last_time(2) - va.last_time(1))
+    return max(end for end in ends if base.commit(end).latest <= clock)
+
+
 def values_and_moments(shop):
     """A value of each kind, beside what PostgreSQL prints; moments by place and clock; rows by tag."""
     shop.sql(KINDS)
@@ -341,7 +348,7 @@ def values_and_moments(shop):
             ("by lsn", va.moment_of(node, va.place_of(commit.lsn)), last),
             ("by the lsn before", base.moment_of(commit.lsn - 1), va.last_time(commit.transaction - 1)),
             ("by clock", base.moment_of(commit.latest), last),
-            ("by the load's clock", base.moment_of(load.latest), first),
+            ("by the load's clock", base.moment_of(load.latest), last_by_clock(base, load.latest)),
             ("in between", base.commit(last + 5).transaction, commit.transaction),
             ("a text that isn't there", base.get("files", "nothing"), None),
             ("a text", base.get("files", "file 7")["size"], 7),
