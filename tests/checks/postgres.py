@@ -480,8 +480,8 @@ def tails(shop, story=None, count=20_000, rounds=3, *timeout):
 
 
 def cut_in_half(shop, count):
-    """Kills a capture between two entries of an UPDATE of so many rows: what stands then, up to its last whole entry,
-    and the places of its entries."""
+    """Kills a capture between two entries of an UPDATE of so many rows: what stands then under checksums, up to its last
+    whole entry, and the places of its entries. What has no checksum yet is dropped by the next capture."""
     shop.sql("insert into accounts select i, 'owner ' || i, i %% 5, 100 from generate_series(10000, %s) i",
              9_999 + count)
     shop.captured()
@@ -490,7 +490,7 @@ def cut_in_half(shop, count):
         size, child = shop.file.stat().st_size, shop.capture("--file", shop.file)
         waited(lambda: shop.file.stat().st_size > size or child.poll() is not None, "the capture doesn't write")
         kill(child)
-        data = shop.file.read_bytes()
+        data = shop.file.read_bytes()[:LogInFile(str(shop.file), LOG).see().size]
         places = places_of(data)
         if (places[-1][2] + 1) % 2 ** 20:
             return data[:places[-1][1]], places
