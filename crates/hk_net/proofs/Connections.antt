@@ -11,14 +11,16 @@ use Rattle.hk_link.specs.Sharing.{LinkGoesOn, MayAmong, link_list}
 use Rattle.hk_link_state.proofs.Seen.{then_prefix}
 use Rattle.hk_doors.specs.declared.passes.Passes.{Passes}
 use Rattle.hk_exchange.specs.declared.exchange.Exchange.{Exchange}
-use Rattle.hk_exchange.specs.Exchanges.{ExchangeValue, IsNext, Stands, Stays, Told, Turns, start, value_of}
+use Rattle.hk_exchange.specs.Exchanges.{ExchangeValue, IsNext, Stands, Stays, StaysBy, Told, Turns, start, value_of}
 use Rattle.hk_oplog.specs.declared.op.Op.{Op}
 use Rattle.hk_net.specs.declared.link.Link.{Link}
 use Rattle.hk_net.specs.declared.link.Stage.{Stage}
 use Rattle.hk_net.specs.declared.link.Stage.TheVariants.{Lives, LetsGo, Left}
-use Rattle.hk_exchange.proofs.Standing.{starts}
+use Rattle.hk_exchange.proofs.Standing.{served, starts}
+use Rattle.std.proofs.Math.Logic.{∥∥₁_map}
 use Rattle.hk_oplog.specs.declared.op.NodeKind.{NodeKind}
-use Rattle.hk_net.specs.Connections.{AreOver, GoesOnBeside, KeepsOf, KeptBeside, LinkAnswers, Lived, Opens, SeatHost, StandsOn, Steps, may_of, own_at, own_of, side_of}
+use Rattle.hk_net.specs.declared.turns.Moment.{Moment}
+use Rattle.hk_net.specs.Connections.{AreOver, GoesOnBeside, HasStood, IsServed, KeepsOf, KeptBeside, LinkAnswers, Lived, Opens, SeatHost, Serves, StandsOn, Steps, may_of, own_at, own_of, side_of}
 
 -- with no request more
 pub none_more : (passes : Passes) (v : ExchangeValue) (ready : List ℕ) (asked : List Request) (told : List Reply) → Stands passes v ready asked told → Stands passes v ready (asked ++ []) (told ++ [])
@@ -255,3 +257,105 @@ opens kind kept link fresh is passes way =
       keeps = at_any link.stage link.kept (λ (own : LinkStateValue). record first { buffers = own.buffers } ≡ link_of {S = SeatHost} (way, []) own)
           (subst (λ (o : Option LinkStateValue). IfSome o (λ (own : LinkStateValue). record first { buffers = own.buffers } ≡ link_of {S = SeatHost} (way, []) own)) (sym is) refl);
     }
+
+-- ---- a client
+
+-- what is kept by a session that goes on is what its last host left, if so is what was kept before
+keeps_on : {S : Type 0} (stage : Stage) (old new : Option LinkStateValue) (last : LinkValue S) → KeptBeside old new
+    → IfSome (own_at stage old) (λ kept. record last { buffers = kept.buffers } ≡ link_of last.inner kept) → IfSome (own_at stage new) (λ kept. record last { buffers = kept.buffers } ≡ link_of last.inner kept)
+keeps_on Lives None new last beside keeps = subst (λ (o : Option LinkStateValue). IfSome o (λ kept. record last { buffers = kept.buffers } ≡ link_of last.inner kept)) (sym beside) tt
+keeps_on Lives (Some had) new last beside keeps =
+    subst (λ (o : Option LinkStateValue). IfSome o (λ kept. record last { buffers = kept.buffers } ≡ link_of last.inner kept)) (sym beside.1)
+    (ap (λ (l : LinkValue _). record l { buffers = beside.0.buffers }) keeps ∙ ap (λ (k : LinkStateValue). link_of last.inner k) (sym beside.2))
+keeps_on LetsGo old new last beside keeps = tt
+keeps_on Left old new last beside keeps = tt
+
+-- it stands there still where nothing was asked or answered, and the same is kept
+pub stands_still : {S : Type 0} (side : Sided S) (may : May S) (first : LinkValue S) (asked : List Request) (told : List Reply) (before after : Link) (seen : List Op)
+    → StaysBy before.pipe.exchange [] after.pipe.exchange [] → after.stage ≡ before.stage → KeptBeside before.kept after.kept → after.passes ≡ before.passes
+    → StandsOn side may before.passes first asked told before seen → StandsOn side may after.passes first asked told after seen
+stands_still side may first asked told before after seen stays stage beside passes on = record {
+  last = on.last;
+  answers = on.answers;
+  stands = subst (λ (p : Passes). Stands p (value_of after.pipe.exchange) [] asked told) (sym passes) (stays before.passes asked told on.stands);
+  known = on.known;
+  keeps = subst (λ (s : Stage). IfSome (own_at s after.kept) (λ kept. record on.last { buffers = kept.buffers } ≡ link_of on.last.inner kept)) (sym stage)
+      (keeps_on before.stage before.kept after.kept on.last beside on.keeps);
+}
+
+-- an exchange that is as it was
+pub stays_at : (before after : Exchange) → after ≡ before → StaysBy before [] after []
+stays_at before after is passes asked told stands = subst (λ (e : Exchange). Stands passes (value_of e) [] asked told) (sym is) stands
+
+-- so a client stands where it stood
+pub stood_still : (kind : NodeKind) (before after : Link) (seen : List Op)
+    → StaysBy before.pipe.exchange [] after.pipe.exchange [] → after.stage ≡ before.stage → KeptBeside before.kept after.kept → after.passes ≡ before.passes
+    → HasStood kind before seen → HasStood kind after seen
+stood_still kind before after seen stays stage beside passes h = record {
+  way = h.way;
+  kept = h.kept;
+  asked = h.asked;
+  told = h.told;
+  stands = stands_still (side_of kind) (may_of kind) (link_of {S = SeatHost} (h.way, []) h.kept) h.asked h.told before after seen stays stage beside passes h.stands;
+}
+
+-- and where only its pipe changed
+pub stood_beside : (kind : NodeKind) (before after : Link) (seen : List Op) → StaysBy before.pipe.exchange [] after.pipe.exchange []
+    → after ≡ record before { pipe = after.pipe } → HasStood kind before seen → HasStood kind after seen
+stood_beside kind before after seen stays same h =
+    stood_still kind before after seen stays (ap (λ (l : Link). l.stage) same)
+    (subst (KeptBeside before.kept) (sym (ap (λ (l : Link). l.kept) same)) (kept_same before.kept)) (ap (λ (l : Link). l.passes) same) h
+
+-- a client whose connection was just accepted, and which keeps nothing
+pub stood_new : (kind : NodeKind) (link : Link) (seen : List Op) → value_of link.pipe.exchange ≡ start → link.kept ≡ None → HasStood kind link seen
+stood_new kind link seen fresh none =
+    let kept : LinkStateValue = record { most = 0; giving = None; came = []; holds = []; buffers = 0 } in
+    let first : LinkValue SeatHost = link_of {S = SeatHost} (link.passes, []) kept in record {
+      way = link.passes;
+      kept = kept;
+      asked = [];
+      told = [];
+      stands = record {
+        last = first;
+        answers = (first, refl, stays_so (side_of kind) (may_of kind) first);
+        stands = subst (λ (v : ExchangeValue). Stands link.passes v [] [] []) (sym fresh) (starts link.passes);
+        known = (seen, refl);
+        keeps = at_any link.stage link.kept (λ (own : LinkStateValue). record first { buffers = own.buffers } ≡ link_of {S = SeatHost} (link.passes, []) own)
+            (subst (λ (o : Option LinkStateValue). IfSome o (λ (own : LinkStateValue). record first { buffers = own.buffers } ≡ link_of {S = SeatHost} (link.passes, []) own)) (sym none) tt);
+      };
+    }
+
+-- and beside what it keeps from then on
+pub stood_opens : (kind : NodeKind) (kept : LinkStateValue) (link : Link) (seen : List Op) → Opens kind kept link [] → HasStood kind link seen
+stood_opens kind kept link seen opened =
+    let on = opened link.passes link.passes in record {
+      way = link.passes;
+      kept = kept;
+      asked = [];
+      told = [];
+      stands = record {
+        last = on.last;
+        answers = on.answers;
+        stands = on.stands;
+        known = then_prefix (on.last.inner.1) [] seen on.known (seen, refl);
+        keeps = on.keeps;
+      };
+    }
+
+-- after a turn
+pub stood_turn : (kind : NodeKind) (moment : Moment) (seat : List Op) (before after : Link) (seen seen_after : List Op) → moment.passes ≡ before.passes → after.passes ≡ before.passes
+    → Serves kind moment seat before seen after seen_after → HasStood kind before seen → HasStood kind after seen_after
+stood_turn kind moment seat before after seen seen_after is same lived h =
+    let first = link_of {S = SeatHost} (h.way, []) h.kept in
+    let t = lived first h.asked h.told (subst (λ (p : Passes). StandsOn (side_of kind) (may_of kind) p first h.asked h.told before seen) (sym is) h.stands) in record {
+      way = h.way;
+      kept = h.kept;
+      asked = h.asked ++ t.0;
+      told = h.told ++ t.1;
+      stands = subst (λ (p : Passes). StandsOn (side_of kind) (may_of kind) p first (h.asked ++ t.0) (h.told ++ t.1) after seen_after) (is ∙ sym same) t.4;
+    }
+
+-- what its socket took, by where it stands
+pub stood_served : (kind : NodeKind) (link : Link) (seen : List Op) → ∥ HasStood kind link seen ∥₁ → IsServed link.passes link.pipe.exchange
+stood_served kind link seen h =
+    ∥∥₁_map h (λ (s : HasStood kind link seen). (s.asked, s.told, served link.passes (value_of link.pipe.exchange) [] s.asked s.told s.stands.stands))

@@ -13,7 +13,7 @@ use Rattle.hk_oplog.specs.declared.op.NodeKind.{NodeKind}
 use Rattle.hk_oplog.specs.declared.op.Op.{Op}
 use Rattle.hk_doors.specs.declared.passes.Passes.{Passes}
 use Rattle.hk_exchange.specs.declared.exchange.Exchange.{Exchange}
-use Rattle.hk_exchange.specs.Exchanges.{ExchangeValue, Stands, start, value_of}
+use Rattle.hk_exchange.specs.Exchanges.{ExchangeValue, Served, Stands, start, value_of}
 use Rattle.hk_seats.specs.Ways.{MayAnswer}
 use Rattle.hk_host.specs.Pins.{HoldsBy, ReleasesBy}
 use Rattle.hk_net.specs.declared.link.Link.{Link}
@@ -122,3 +122,16 @@ Opens kind kept link seen = (passes way : Passes) → StandsOn (side_of kind) (m
 -- a turn of a client's connection over a seat of its node
 abbrev pub Serves : NodeKind → Moment → List Op → Link → List Op → Link → List Op → Type 0
 Serves kind moment seat before seen after seen_after = Lived (side_of kind) (may_of kind) moment.passes seat before seen after seen_after
+
+-- It has stood so since it began: requests were answered so by hosts over seats of a node of this kind, that had shown it nothing at first, and each over a list
+-- that begins with those of the requests before.
+pub record HasStood (kind : NodeKind) (link : Link) (seen : List Op) : Type 0 where
+  pub way : Passes
+  pub kept : LinkStateValue
+  pub asked : List Request
+  pub told : List Reply
+  pub stands : StandsOn (side_of kind) (may_of kind) link.passes (link_of {S = SeatHost} (way, []) kept) asked told link seen
+
+-- what its socket took says just what was answered so, at a door that lets so much through
+abbrev pub IsServed : Passes → Exchange → Type 0
+IsServed passes exchange = ∥ ((asked : List Request) × (told : List Reply) × Served passes (value_of exchange) [] asked told) ∥₁

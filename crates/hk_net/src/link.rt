@@ -1,6 +1,6 @@
 //! A connection of a worker: its socket, its session, and what waits between them.
 
-ghost use Rattle.std.specs.Prelude.{◌≡◌, [], true};
+ghost use Rattle.std.specs.Prelude.{◌≡◌, [], true, None};
 ghost use Rattle.hk_exchange.specs.Exchanges.{StaysBy, StaysReady, start, value_of};
 ghost use Rattle.hk_net.specs.declared.link.Stage.TheVariants.{Lives};
 ghost use Rattle.hk_net.specs.Connections.{IsNew, KeptBeside};
@@ -9,12 +9,14 @@ use crate::doors::Limits;
 use crate::sockets::Socket;
 use crate::speech::speech_of;
 use crate::waiting::Awaited;
+use hk_doors::Passes;
 use hk_exchange::Exchange;
 use hk_host::Speech;
 use hk_link_state::LinkState;
 use hk_meters::Meters;
 use hk_pipes::MOST_HELD;
 use hk_session_parts::Ended;
+use mio::{Registry, Token};
 use std::alloc::Global;
 
 /// For how many milliseconds what a peer still sends is read and dropped once its session has ended, so that it can read the last reply:
@@ -99,6 +101,8 @@ pub(crate) struct Link<'d> {
     /// What it keeps beside its worker's seat, and how many times 4,096 bytes of that are reserved for its pipe.
     pub(crate) kept: Option<LinkState<'d>>,
     pub(crate) reserved: u32,
+    /// Which requests its door lets through.
+    pub(crate) passes: Passes,
     pub(crate) stage: Stage,
 }
 
@@ -145,6 +149,43 @@ impl<'d> Pipe<'d> {
         // The system may say no more than that a socket takes bytes, of a connection that has none for it.
         let is_read = told.is_readable && self.awaited.is_none();
         self.is_cut || is_read || self.has_unwritten()
+    }
+
+    /// Has the system say under a token what happens to its socket. Where that can't be done it ends at its next turn.
+    pub(crate) fn register(&mut self, registry: &Registry, token: usize)
+        ensures { StaysReady self.old.exchange self.new.exchange }
+    {
+        if self.socket.register(registry, Token(token)).is_err() {
+            self.cut(Ended::Memory);
+        }
+    }
+
+    /// Has its socket's events come to this worker no more. Returns whether it can go to another one.
+    pub(crate) fn leave(&mut self, registry: &Registry) -> bool
+        ensures { self.new.exchange ≡ self.old.exchange }
+    {
+        !self.is_cut && self.socket.deregister(registry).is_ok()
+    }
+
+    /// Has it wait for a time; or no longer, where it is `None`, so that its next request is answered.
+    pub(crate) fn wait_for(&mut self, awaited: Option<Awaited>)
+        ensures { self.new.exchange ≡ self.old.exchange }
+    {
+        self.awaited = awaited;
+        self.has_waited = awaited.is_none();
+    }
+
+    /// Has it wait no longer, and returns what it waited for.
+    pub(crate) fn end_wait(&mut self, now: u64) -> Option<Awaited>
+        ensures { self.new.exchange ≡ self.old.exchange }
+    {
+        let awaited = self.awaited;
+        if awaited.is_some() {
+            self.wait_for(None);
+            self.since = now;
+            self.frame_since = now;
+        }
+        awaited
     }
 
     /// Notes what its first bytes are of, once four are there.
@@ -238,10 +279,12 @@ impl<'d> Link<'d> {
         socket: Socket,
         door: usize,
         place: usize,
+        passes: Passes,
         now: u64,
         meters: &'d Meters<'d>,
     ) -> Link<'d>
-        ensures { IsNew result }
+        ensures new { IsNew result }
+        ensures none { result.kept ≡ None }
     {
         Link {
             door: u32::try_from(door).unwrap_or(u32::MAX),
@@ -249,6 +292,7 @@ impl<'d> Link<'d> {
             pipe: Pipe::new(alloc, socket, now, meters),
             kept: None,
             reserved: 0,
+            passes,
             stage: Stage::Lives,
         }
     }
@@ -303,6 +347,7 @@ impl<'d> Link<'d> {
         ensures stays { StaysBy self.old.pipe.exchange [] self.new.pipe.exchange [] }
         ensures stage { self.new.stage ≡ self.old.stage }
         ensures kept { KeptBeside self.old.kept self.new.kept }
+        ensures passes { self.new.passes ≡ self.old.passes }
     {
         let exchange = &self.pipe.exchange;
         let held = exchange.held().saturating_add(exchange.standing());
@@ -327,6 +372,7 @@ impl<'d> Link<'d> {
         ensures stays { StaysBy self.old.pipe.exchange [] self.new.pipe.exchange [] }
         ensures stage { self.new.stage ≡ self.old.stage }
         ensures kept { KeptBeside self.old.kept self.new.kept }
+        ensures passes { self.new.passes ≡ self.old.passes }
     {
         self.pipe.is_cut = true;
         self.pipe.exchange.drop_all(Ended::Memory);
@@ -337,6 +383,7 @@ impl<'d> Link<'d> {
         ensures stays { StaysBy self.old.pipe.exchange [] self.new.pipe.exchange [] }
         ensures stage { self.new.stage ≡ self.old.stage }
         ensures kept { KeptBeside self.old.kept self.new.kept }
+        ensures passes { self.new.passes ≡ self.old.passes }
     {
         if self.pipe.exchange.standing() > MOST_HELD as u64 {
             self.reserve();

@@ -1,8 +1,8 @@
 //! A worker's sockets and connections, and what it does with them beside their turns: nothing of it asks the node.
 
-ghost use Rattle.std.specs.Prelude.{◌≡◌, [], IfSome};
+ghost use Rattle.std.specs.Prelude.{◌≡◌, IfSome};
 ghost use mathlib.Core.List.{IsPrefix};
-ghost use Rattle.hk_net.specs.Connections.{IsNew};
+ghost use Rattle.hk_exchange.specs.Exchanges.{start, value_of};
 
 use crate::client::Client;
 use crate::link::Link;
@@ -15,7 +15,7 @@ use hk_doors::Passes;
 use hk_host::{LinkEvent, Teller};
 use hk_node::{NodeName, ReaderSeat};
 use hk_session_parts::Ended;
-use mio::{Events, Poll, Token};
+use mio::{Events, Poll};
 use std::alloc::Global;
 use std::rt::Clock;
 use std::sync::Wait;
@@ -96,7 +96,9 @@ impl<'w, 'd, J: NodeName, R: Wait + Clock + 'w> Reactor<'w, 'd, J, R> {
     }
 
     /// What a connection knows as it has its turn, behind a door that lets these requests through.
-    pub(crate) fn moment(&self, passes: Passes) -> Moment {
+    pub(crate) fn moment(&self, passes: Passes) -> Moment
+        ensures { result.passes ≡ passes }
+    {
         Moment {
             passes,
             is_at_long_end: self.staff.is_at_long_end(self.worker.number),
@@ -108,16 +110,14 @@ impl<'w, 'd, J: NodeName, R: Wait + Clock + 'w> Reactor<'w, 'd, J, R> {
     }
 
     /// Takes a connection off what waits for a time, for its turn. Returns false where it waits for a time: it is cut, or it has none.
-    pub(crate) fn begin_turn(&mut self, token: usize, link: &mut Link<'d>) -> bool {
+    pub(crate) fn begin_turn(&mut self, token: usize, client: &mut Client<'d, J>) -> bool {
         self.look_at_clock();
-        let Some(awaited) = link.pipe.awaited else {
-            return true;
-        };
-        if link.pipe.is_cut {
-            link.pipe.awaited = None;
-            self.worker.waiting.remove(token, awaited);
+        if client.link().pipe.is_cut {
+            if let Some(awaited) = client.end_wait(self.worker.now) {
+                self.worker.waiting.remove(token, awaited);
+            }
         }
-        link.pipe.is_cut
+        client.link().pipe.awaited.is_none()
     }
 
     /// Wakes who waits for what a seat can read, where a change was asked for in a turn.
@@ -142,13 +142,10 @@ impl<'w, 'd, J: NodeName, R: Wait + Clock + 'w> Reactor<'w, 'd, J, R> {
 
     /// Ends a connection: its socket is closed, and its slot is free.
     pub(crate) fn close(&mut self, token: usize, client: Box<Client<'d, J>, Global>) {
-        let link = &client.link;
-        let (ended, door, place) = (link.pipe.end(), link.door(), link.place());
-        let speech = link.pipe.speech;
+        let (ended, door, place) = (client.end(), client.link().door(), client.link().place());
         drop(client);
         self.worker.links.free(token);
-        self.teller
-            .tell(self.rt, LinkEvent::Ended { ended, speech });
+        self.teller.tell(self.rt, ended);
         self.staff.give_back(self.rt, door, place);
     }
 
@@ -165,34 +162,24 @@ impl<'w, 'd, J: NodeName, R: Wait + Clock + 'w> Reactor<'w, 'd, J, R> {
         accepted: Accepted,
         door: usize,
         place: usize,
+        passes: Passes,
     ) -> Option<Box<Client<'d, J>, Global>>
-        ensures { IfSome result (λ client. IsNew client.value.link × (client.value.seen ≡ [])) }
+        ensures { IfSome result (λ client. value_of client.value.0 ≡ start) }
     {
         let (alloc, now, staff) = (self.worker.alloc, self.worker.now, self.staff);
         let socket = accepted.into_socket().ok()?;
-        let link = Link::new(alloc, socket, door, place, now, staff.meters);
+        let link = Link::new(alloc, socket, door, place, passes, now, staff.meters);
         Box::new(alloc, Client::new(link)).ok()
     }
 
     /// Takes in a connection. Where there is no memory for it, it is closed.
     pub(crate) fn enter(&mut self, client: Box<Client<'d, J>, Global>) {
         let mut client = client;
-        let link = &mut client.link;
         let Ok(token) = self.worker.links.new_token() else {
-            self.refuse(link.door(), link.place());
+            self.refuse(client.link().door(), client.link().place());
             return;
         };
-        let registry = self.poll.registry();
-        if link.pipe.socket.register(registry, Token(token)).is_err() {
-            link.pipe.cut(Ended::Memory);
-        }
+        client.register(self.poll.registry(), token);
         self.worker.put_listed(token, client);
-    }
-
-    /// Writes the replies of a connection that is handed to another worker, and has its socket's events come here no more. Returns whether
-    /// it can be.
-    pub(crate) fn lets_leave(&mut self, link: &mut Link<'d>) -> bool {
-        link.end_round(self.worker.now);
-        !link.pipe.is_cut && link.pipe.socket.deregister(self.poll.registry()).is_ok()
     }
 }

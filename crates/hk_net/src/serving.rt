@@ -1,16 +1,12 @@
 //! What a worker does with its seat: each connection that can go on has a turn over a host of it.
 
-ghost use Rattle.std.specs.Prelude.{◌≡◌, is_some};
-ghost use Rattle.hk_net.specs.Connections.{Serves};
-
 use crate::arrivals::{Arrival, Inbox};
 use crate::client::Client;
 use crate::reactor::Reactor;
 use crate::shop::Shop;
 use crate::sockets::Accepted;
-use crate::turns::{Moment, Turn};
-use crate::worker::Worker;
-use hk_host::{NodeHost, Teller};
+use crate::turns::Turn;
+use hk_host::Teller;
 use hk_node::{NodeName, ReaderSeat};
 use hk_seats::Way;
 use mio::{Events, Poll};
@@ -21,30 +17,6 @@ use std::thread::Threads;
 
 /// For how many milliseconds connections that had a turn have further ones before the system is asked what happened to others.
 const FURTHER_TURNS: u64 = 2;
-
-/// The turn of a client that may do so much, over a host of the seat, which is returned. The seat applies first what the client has seen,
-/// whichever worker showed it; and then the client has seen what the seat has.
-fn turn_over<'a, 'd, J: NodeName, N: Wait + Drop, R: Threads + Wait + Sync>(
-    rt: &'a R,
-    way: Way<'a, J, N>,
-    teller: &'a Teller<'a>,
-    worker: &mut Worker<'d, J>,
-    moment: Moment,
-    client: &mut Client<'d, J>,
-    seat: ReaderSeat<J>,
-) -> (Turn, ReaderSeat<J>)
-    ensures turn { Serves J.kind moment seat
-        client.old.link client.old.seen client.new.link client.new.seen }
-    ensures seen { client.new.seen ≡ result.1 }
-{
-    let mut seat = seat;
-    client.show(&mut seat);
-    let host = NodeHost::with_way(rt, worker.alloc, way, seat, Some(teller));
-    let (turn, host) = worker.turn(moment, &mut client.link, host);
-    let seat = host.into_seat();
-    client.note(&seat);
-    (turn, seat)
-}
 
 /// Leaves a client for a worker. It comes back where that can't be done.
 fn leave_moved<'d, J: NodeName, R: Wait>(
@@ -61,7 +33,7 @@ fn leave_moved<'d, J: NodeName, R: Wait>(
     }
 }
 
-/// A worker at its work: what all threads share, its seat, which has left while a connection has its turn, and its connections.
+/// A worker at its work: what all threads share, and its connections. Its seat goes through each call, and comes back.
 #[derive(Drop)]
 struct Serving<
     'w,
@@ -71,7 +43,6 @@ struct Serving<
     R: Threads + Wait + Clock + Sync + 'w,
 > {
     shop: &'w Shop<'d, J, N>,
-    seat: Option<ReaderSeat<J>>,
     reactor: Reactor<'w, 'd, J, R>,
 }
 
@@ -85,13 +56,15 @@ impl<'w, 'd, J: NodeName + 'w, N: Wait + Drop + 'w, R: Threads + Wait + Clock + 
     /// Leaves a client for a worker that gives long answers. Where that can't be done its connection ends.
     fn hand_over(&mut self, token: usize, client: Box<Client<'d, J>, Global>) {
         let mut client = client;
-        if !self.reactor.lets_leave(&mut client.link) {
+        let reactor = &self.reactor;
+        if !client.lets_leave(reactor.worker.now, reactor.poll.registry()) {
             self.reactor.worker.cut(token, client);
             return;
         }
         let staff = &self.shop.staff;
-        let place = client.link.place();
-        let worker = staff.long_worker(place).unwrap_or(usize::MAX);
+        let worker = staff
+            .long_worker(client.link().place())
+            .unwrap_or(usize::MAX);
         let inbox = self.shop.inboxes.get(worker);
         match leave_moved(self.reactor.rt, inbox, client) {
             Some(client) => self.reactor.worker.cut(token, client),
@@ -111,23 +84,23 @@ impl<'w, 'd, J: NodeName + 'w, N: Wait + Drop + 'w, R: Threads + Wait + Clock + 
         }
     }
 
-    /// The turn of the client under a token, unless it waits for a time.
-    fn turn_of(&mut self, token: usize, client: &mut Client<'d, J>) -> Turn
-        ensures { is_some self.new.seat ≡ is_some self.old.seat }
-    {
-        let Some(door) = self.shop.doors.get(client.link.door()) else {
-            return Turn::Over;
+    /// The turn of the client under a token, unless it waits for a time, and the seat.
+    fn turn_of(
+        &mut self,
+        token: usize,
+        client: &mut Client<'d, J>,
+        seat: ReaderSeat<J>,
+    ) -> (Turn, ReaderSeat<J>) {
+        let Some(door) = self.shop.doors.get(client.link().door()) else {
+            return (Turn::Over, seat);
         };
-        if !self.reactor.begin_turn(token, &mut client.link) {
-            return Turn::Waits;
+        if !self.reactor.begin_turn(token, client) {
+            return (Turn::Waits, seat);
         }
-        let Some(seat) = self.seat.take() else {
-            return Turn::Over;
-        };
-        let moment = self.reactor.moment(door.way.passes());
+        let moment = self.reactor.moment(client.link().passes);
         self.reactor
             .teller
-            .turn_to(client.link.place(), door.tells_changes);
+            .turn_to(client.link().place(), door.tells_changes);
         let seen = seat.seen();
         let Reactor {
             rt,
@@ -136,69 +109,80 @@ impl<'w, 'd, J: NodeName + 'w, N: Wait + Drop + 'w, R: Threads + Wait + Clock + 
             ..
         } = &mut self.reactor;
         let way = door.way.again();
-        let (turn, mut seat) = turn_over(*rt, way, teller, worker, moment, client, seat);
+        let (turn, mut seat) = client.turn(*rt, way, teller, worker, moment, seat);
         self.reactor.ring(&mut seat);
         if seen < seat.seen() {
-            self.reactor.note_change(moment, client.link.door());
+            self.reactor.note_change(moment, client.link().door());
         }
-        self.seat = Some(seat);
-        turn
+        (turn, seat)
     }
 
     /// Gives the client under a token its turn.
-    fn serve(&mut self, token: usize) {
+    fn serve(&mut self, token: usize, seat: ReaderSeat<J>) -> ReaderSeat<J> {
         let Some(mut client) = self.reactor.worker.links.take(token) else {
-            return;
+            return seat;
         };
-        let turn = self.turn_of(token, &mut client);
+        let (turn, seat) = self.turn_of(token, &mut client, seat);
         self.settle(token, turn, client);
+        seat
     }
 
     /// Gives those that had a turn and have more to do a further one, in their order, until so many milliseconds are over.
-    fn take_further_turns(&mut self) {
+    fn take_further_turns(&mut self, seat: ReaderSeat<J>) -> ReaderSeat<J> {
+        let mut seat = seat;
         let until = self.reactor.worker.now.saturating_add(FURTHER_TURNS);
         for _ in 0..self.reactor.worker.links.count_again() {
             let Some(token) = self.reactor.worker.links.take_again() else {
-                return;
+                break;
             };
-            self.serve(token);
+            seat = self.serve(token, seat);
             self.reactor.look_at_clock();
             if self.reactor.worker.now >= until {
-                return;
+                break;
             }
         }
+        seat
     }
 
     /// Gives each connection to which something happened its turn, and some that have more to do a further one; and then writes their
     /// replies: a peer that has several connections is woken once. So who sends much at once holds up others by a request or some, and
     /// who asks for one thing after the other isn't held up by all of it.
-    fn take_turns(&mut self) {
+    fn take_turns(&mut self, seat: ReaderSeat<J>) -> ReaderSeat<J> {
+        let mut seat = seat;
         self.reactor.worker.has_freed = false;
         let count = self.reactor.worker.links.begin_round();
         for at in 0..count {
             if let Some(token) = self.reactor.worker.links.in_round(at) {
-                self.serve(token);
+                seat = self.serve(token, seat);
             }
         }
-        self.take_further_turns();
+        let seat = self.take_further_turns(seat);
         let staff = &self.shop.staff;
         self.reactor.worker.end_round(&staff.limits);
         let least = self.reactor.worker.waiting.least_number();
         staff.bell.expect(self.reactor.worker.number, least);
+        seat
     }
 
     /// Takes in a connection that was accepted. Where that fails it is closed.
-    fn open(&mut self, accepted: Accepted, door: usize, place: usize) {
-        let Some(mut client) = self.reactor.opened(accepted, door, place) else {
-            self.reactor.refuse(door, place);
+    fn open(&mut self, accepted: Accepted, number: usize, place: usize) {
+        let Some(door) = self.shop.doors.get(number) else {
+            self.reactor.refuse(number, place);
             return;
         };
-        if let Some(door) = self.shop.doors.get(door) {
-            let may_release = matches!(door.way, Way::Open(_));
-            let staff = &self.shop.staff;
-            let worker = &mut self.reactor.worker;
-            client.begin(worker.first_kept(may_release, door.budget, staff.meters));
-        }
+        let passes = door.way.passes();
+        let Some(mut client) = self.reactor.opened(accepted, number, place, passes) else {
+            self.reactor.refuse(number, place);
+            return;
+        };
+        let may_release = matches!(door.way, Way::Open(_));
+        let staff = &self.shop.staff;
+        let meters = staff.meters;
+        client.begin(
+            self.reactor
+                .worker
+                .first_kept(may_release, door.budget, meters),
+        );
         self.reactor.enter(client);
     }
 
@@ -242,7 +226,7 @@ impl<'w, 'd, J: NodeName + 'w, N: Wait + Drop + 'w, R: Threads + Wait + Clock + 
     }
 
     /// One round: what the system said, what others left, who waited long enough, and the turns of those that can go on.
-    fn round(&mut self, events: &Events) {
+    fn round(&mut self, events: &Events, seat: ReaderSeat<J>) -> ReaderSeat<J> {
         self.reactor.look_at_clock();
         if self.reactor.worker.take_events(events) {
             self.take_arrivals();
@@ -251,7 +235,7 @@ impl<'w, 'd, J: NodeName + 'w, N: Wait + Drop + 'w, R: Threads + Wait + Clock + 
         self.reactor.worker.wake_due(staff.bell.readable());
         self.reactor.worker.look_at_limits(&staff.limits);
         self.catch_up();
-        self.take_turns();
+        self.take_turns(seat)
     }
 }
 
@@ -275,13 +259,10 @@ pub(crate) fn serve_worker<'w, 'd, J: NodeName, N: Wait + Drop, R: Threads + Wai
     seat: ReaderSeat<J>,
 ) {
     let (reactor, mut events) = Reactor::begin(rt, &shop.staff, tools);
-    let mut serving = Serving {
-        shop,
-        seat: Some(seat),
-        reactor,
-    };
+    let mut serving = Serving { shop, reactor };
+    let mut seat = seat;
     for _ in rt.forever() {
         serving.reactor.wait(&mut events);
-        serving.round(&events);
+        seat = serving.round(&events, seat);
     }
 }

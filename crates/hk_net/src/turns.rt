@@ -432,6 +432,7 @@ impl<'d> Link<'d> {
         ensures stays { StaysBy self.old.pipe.exchange [] self.new.pipe.exchange [] }
         ensures stage { self.new.stage ≡ self.old.stage }
         ensures kept { KeptBeside self.old.kept self.new.kept }
+        ensures passes { self.new.passes ≡ self.old.passes }
     {
         self.pipe.write(now);
         self.reserve();
@@ -450,6 +451,7 @@ impl<'d> Link<'d> {
     fn let_go(&mut self, state: LinkState<'d>, left: &mut Vec<LinkState<'d>>)
         ensures stays { StaysBy self.old.pipe.exchange [] self.new.pipe.exchange [] }
         ensures over { own_of self.new ≡ None }
+        ensures passes { self.new.passes ≡ self.old.passes }
     {
         self.stage = Stage::Left;
         self.reserved = 0;
@@ -488,6 +490,7 @@ impl<'d> Link<'d> {
         requires empty { out.old.items ≡ [] }
         ensures empty { out.new.items ≡ [] }
         ensures turn { Turned H.side H.may moment host self.old result.1 self.new }
+        ensures passes { self.new.passes ≡ self.old.passes }
     {
         self.pipe.write(moment.now);
         let Some(kept) = self.take_kept() else {
@@ -518,6 +521,7 @@ impl<'d> Link<'d> {
         requires { H.ready host }
         ensures stays { StaysBy self.old.pipe.exchange [] self.new.pipe.exchange [] }
         ensures over { own_of self.new ≡ None }
+        ensures passes { self.new.passes ≡ self.old.passes }
         ensures seen { IsPrefix (H.side.list host) (H.side.list result.1) }
     {
         self.stage = Stage::LetsGo;

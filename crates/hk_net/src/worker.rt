@@ -1,5 +1,6 @@
 //! A worker's connections, which of them wait, and its clock.
 
+ghost use Rattle.std.specs.Prelude.{◌≡◌};
 ghost use Rattle.hk_net.specs.Connections.{Turned};
 
 use crate::client::Client;
@@ -79,7 +80,8 @@ impl<'d, J: NodeName> Worker<'d, J> {
         host: H,
     ) -> (Turn, H)
         requires { H.ready host }
-        ensures { Turned H.side H.may moment host link.old result.1 link.new }
+        ensures turn { Turned H.side H.may moment host link.old result.1 link.new }
+        ensures passes { link.new.passes ≡ link.old.passes }
     {
         // Nothing is ready between two turns: what one connection is told is never another's.
         self.out.clear();
@@ -136,7 +138,7 @@ impl<'d, J: NodeName> Worker<'d, J> {
             let Some(client) = self.links.get_mut(token) else {
                 continue;
             };
-            if client.link.pipe.note(told) {
+            if client.note(told) {
                 self.links.list(token);
             }
             if told.is_closed {
@@ -151,15 +153,10 @@ impl<'d, J: NodeName> Worker<'d, J> {
         let Some(client) = self.links.get_mut(token) else {
             return;
         };
-        let link = &mut client.link;
-        let Some(awaited) = link.pipe.awaited.take() else {
-            return;
-        };
-        link.pipe.has_waited = true;
-        link.pipe.since = self.now;
-        link.pipe.frame_since = self.now;
-        self.waiting.remove(token, awaited);
-        self.links.list(token);
+        if let Some(awaited) = client.end_wait(self.now) {
+            self.waiting.remove(token, awaited);
+            self.links.list(token);
+        }
     }
 
     /// Gives a turn to each connection whose time is readable, or that waited for as long as it wanted.
@@ -181,10 +178,9 @@ impl<'d, J: NodeName> Worker<'d, J> {
             let Some(client) = self.links.get_mut(token) else {
                 continue;
             };
-            let link = &mut client.link;
-            let has_turn = link.end_round(self.now);
-            self.is_timed = self.is_timed || link.is_timed(limits);
-            let is_writing = link.pipe.is_writing();
+            let has_turn = client.end_round(self.now);
+            self.is_timed = self.is_timed || client.link().is_timed(limits);
+            let is_writing = client.link().pipe.is_writing();
             if has_turn {
                 self.list_by(token, is_writing);
             }
@@ -202,10 +198,9 @@ impl<'d, J: NodeName> Worker<'d, J> {
             let Some(client) = self.links.get_mut(token) else {
                 continue;
             };
-            let link = &mut client.link;
-            is_timed = is_timed || link.is_timed(limits);
-            if let Some(ended) = link.over_time(self.now, limits) {
-                link.pipe.cut(ended);
+            is_timed = is_timed || client.link().is_timed(limits);
+            if let Some(ended) = client.link().over_time(self.now, limits) {
+                client.cut(ended);
                 self.links.list(token);
             }
         }
@@ -238,7 +233,7 @@ impl<'d, J: NodeName> Worker<'d, J> {
             return;
         }
         self.has_freed = self.has_freed || turn == Turn::Freed;
-        let is_writing = client.link.pipe.is_writing();
+        let is_writing = client.link().pipe.is_writing();
         self.links.put(token, client);
         if turn != Turn::Waits {
             self.list_by(token, is_writing);
@@ -248,7 +243,7 @@ impl<'d, J: NodeName> Worker<'d, J> {
     /// Ends a connection as it is, at its next turn.
     pub(crate) fn cut(&mut self, token: usize, client: Box<Client<'d, J>, Global>) {
         let mut client = client;
-        client.link.pipe.cut(Ended::Memory);
+        client.cut(Ended::Memory);
         self.put_listed(token, client);
     }
 
@@ -269,10 +264,10 @@ impl<'d, J: NodeName> Worker<'d, J> {
             .saturating_add(1);
         let awaited = Awaited { number, until };
         if self.waiting.add(token, awaited).is_ok() {
-            client.link.pipe.awaited = Some(awaited);
+            client.wait_for(Some(awaited));
             self.links.put(token, client);
         } else {
-            client.link.pipe.has_waited = true;
+            client.wait_for(None);
             self.put_listed(token, client);
         }
     }

@@ -1,4 +1,4 @@
-use Rattle.std.proofs.Common.{[], List, ℕ, Some, sym, ap, subst, refl, ◌∙◌, append-nil}
+use Rattle.std.proofs.Common.{[], Some, sym, ap, subst, refl, ◌∙◌, append-nil}
 use mathlib.Core.List.{IsPrefix}
 use Rattle.hk_exchange.specs.declared.exchange.Exchange.{Exchange}
 use Rattle.hk_exchange.specs.Exchanges.{Stays, value_of}
