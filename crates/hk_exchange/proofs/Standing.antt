@@ -18,7 +18,7 @@ use Rattle.hk_doors.specs.declared.frame_watch.Then.TheVariants.{Reads, Pauses, 
 use Rattle.hk_doors.specs.Handing.{HandsOn, HandsOnFirst, Place, inside}
 use Rattle.hk_doors.proofs.Handing.{hands_nothing}
 use Rattle.hk_doors.proofs.HandingLaws.{joins_law}
-use Rattle.hk_pipes.specs.Pipes.{Outgoing, text_of}
+use Rattle.hk_exchange.specs.Pipes.{Outgoing, text_of}
 use Rattle.hk_exchange.specs.Exchanges.{ExchangeValue, GotSo, Says, Said, SaidAll, SaysSo, TakesOn, Told, after_cut, after_drop, cut_by, end_of, Goes, Went, Served, ServedLaw, Stands, Turns, Stays, start, waiting, behind_look}
 use Rattle.hk_exchange.proofs.Saying.{took, says_front, says_next, closed, closed_all, unclean}
 

@@ -16,7 +16,7 @@ use Rattle.hk_doors.specs.declared.frame_watch.Taken.{Taken}
 use Rattle.hk_doors.specs.declared.frame_watch.Then.{Then}
 use Rattle.hk_doors.specs.declared.frame_watch.Then.TheVariants.{Reads, Pauses, Moves}
 use Rattle.hk_doors.specs.Handing.{HandsOn, Place, inside}
-use Rattle.hk_pipes.specs.Pipes.{Outgoing, SendsFront, text_of}
+use Rattle.hk_exchange.specs.Pipes.{Outgoing, SendsFront, text_of}
 use Rattle.hk_exchange.specs.declared.exchange.Exchange.{Exchange}
 use Rattle.hk_exchange.specs.declared.exchange.How.{How}
 

@@ -4,10 +4,12 @@ ghost use Rattle.std.specs.Prelude.{◌≡◌, ◌<◌, ◌≤◌, ◌+◌, ℕ,
 ghost use Rattle.hk_session_parts.specs.Sessions.{AnswersFirst};
 ghost use Rattle.hk_exchange.specs.Exchanges.{ChangesSession, CutsOff, CutsShort, HasStanding, HoldsAll, HoldsOfFrame, IsNext, KeepsBy, LeavesFrom, LooksBy, LooksFrom, ReceivesBy, SendsBy, StaysBy, StaysReady, TakesBy, ToldBy, TurnsAnyhow, TurnsBy, cut_by, end_of, is_within, start, value_of};
 
+use crate::passed::Passed;
+use crate::rest::Rest;
+use crate::unwritten::Unwritten;
 use hk_doors::{FrameWatch, Passes, Taken, Then};
 use hk_messages::{Reply, Request};
 use hk_meters::Meters;
-use hk_pipes::{Passed, Rest, Unwritten};
 use hk_session_parts::{Ended, Host, Step};
 use hk_turns::Session;
 use std::alloc::Global;

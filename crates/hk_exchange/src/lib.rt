@@ -3,6 +3,12 @@
 
 mod exchange;
 mod laws;
+mod passed;
+mod rest;
+mod unwritten;
 
 pub use exchange::{Came, Exchange, How, LEAST_PIECE, LinkSession, Looked};
 pub use laws::served_law;
+pub use passed::Passed;
+pub use rest::Rest;
+pub use unwritten::{MOST_HELD, Unwritten};

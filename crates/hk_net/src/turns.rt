@@ -7,11 +7,10 @@ ghost use Rattle.hk_net.specs.Connections.{KeptBeside, StepsAnyhow, StepsApart, 
 
 use crate::link::{Link, Pipe, Stage};
 use hk_doors::{Passes, Then};
-use hk_exchange::{Came, How, LEAST_PIECE, Looked};
+use hk_exchange::{Came, How, LEAST_PIECE, Looked, MOST_HELD};
 use hk_link::PartsHost;
 use hk_link_state::{LinkState, NodeSide};
 use hk_messages::{LaterReply, LaterRequest, Reply, Request};
-use hk_pipes::MOST_HELD;
 use hk_session_parts::{Ended, Step};
 use std::io::{ErrorKind, Read};
 use std::mem;

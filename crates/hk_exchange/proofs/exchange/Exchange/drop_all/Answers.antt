@@ -1,5 +1,5 @@
 use Rattle.std.proofs.Common.{refl, sym, ap, ◌∙◌, append-nil, ◌++◌, []}
-use Rattle.hk_pipes.specs.Pipes.{Outgoing}
+use Rattle.hk_exchange.specs.Pipes.{Outgoing}
 use Rattle.hk_exchange.specs.Exchanges.{ExchangeValue, value_of}
 use Rattle.hk_exchange.proofs.Standing.{dropped_with, cut_front}
 use Rattle.hk_exchange.proofs.exchange.Exchange.drop_all.Goals as goal

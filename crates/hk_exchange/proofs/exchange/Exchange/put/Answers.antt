@@ -1,5 +1,5 @@
 use Rattle.std.proofs.Common.{◌≡◌, ◌++◌, [], true, ap, ◌∙◌, append-nil, rules}
-use Rattle.hk_pipes.specs.Pipes.{Outgoing, text_of}
+use Rattle.hk_exchange.specs.Pipes.{Outgoing, text_of}
 use Rattle.hk_session_parts.specs.declared.ended.Ended.TheVariants.{WriteFault}
 use Rattle.hk_exchange.specs.Exchanges.{ExchangeValue, value_of}
 use Rattle.hk_exchange.proofs.Standing.{dropped_with, cut_front, put_so}

@@ -1,5 +1,5 @@
 use Rattle.std.proofs.Common.{[], ap, ◌++◌}
-use Rattle.hk_pipes.proofs.Pieces.{front_before}
+use Rattle.hk_exchange.proofs.Pieces.{front_before}
 use Rattle.hk_exchange.specs.Exchanges.{value_of}
 use Rattle.hk_exchange.proofs.Standing.{put_so}
 use Rattle.hk_exchange.proofs.exchange.Exchange.write.Goals as goal

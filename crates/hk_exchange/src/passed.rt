@@ -14,7 +14,7 @@ pub struct Passed {
 impl Model for Passed {
     ghost use Rattle.std.specs.Prelude.{List, ℕ};
     ghost use Rattle.std.specs.Coded.{coded_list, coded_ℕ};
-    ghost use Rattle.hk_pipes.specs.Pipes.{passed_in};
+    ghost use Rattle.hk_exchange.specs.Pipes.{passed_in};
 
     ghost Value = { List ℕ };
 

@@ -1,6 +1,6 @@
 use Rattle.std.proofs.Common.{arith}
-use Rattle.hk_pipes.proofs.Pieces.{takes_more}
-use Rattle.hk_pipes.proofs.unwritten.write_some.Goals as goal
+use Rattle.hk_exchange.proofs.Pieces.{takes_more}
+use Rattle.hk_exchange.proofs.unwritten.write_some.Goals as goal
 
 pub writes-preserved : goal.writes-preserved
 writes-preserved g c =

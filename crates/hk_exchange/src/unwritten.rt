@@ -1,7 +1,7 @@
 //! Replies that a socket didn't take yet.
 
 ghost use Rattle.std.specs.Prelude.{◌≡◌, ◌≤◌, ◌+◌, ◌-◌, ◌==◌, [], ◌++◌, true, false, length, take, drop};
-ghost use Rattle.hk_pipes.specs.Pipes.{SendsFront, SendsStanding, TakesFront, TakesOf, text_of};
+ghost use Rattle.hk_exchange.specs.Pipes.{SendsFront, SendsStanding, TakesFront, TakesOf, text_of};
 
 use crate::passed::Passed;
 use std::alloc::Global;
@@ -103,7 +103,7 @@ pub struct Unwritten {
 
 impl Model for Unwritten {
     ghost use Rattle.std.specs.Prelude.{◌≤◌, length, drop};
-    ghost use Rattle.hk_pipes.specs.Pipes.{Outgoing, outgoing_code};
+    ghost use Rattle.hk_exchange.specs.Pipes.{Outgoing, outgoing_code};
 
     ghost Value = { Outgoing };
 

@@ -1,6 +1,6 @@
 use Rattle.std.proofs.Common.{◌≡◌, ◌≤◌, ◌+◌, length, take, drop}
-use Rattle.hk_pipes.specs.Pipes.{Takes}
-use Rattle.hk_pipes.proofs.unwritten.write_some.Given as goal
+use Rattle.hk_exchange.specs.Pipes.{Takes}
+use Rattle.hk_exchange.proofs.unwritten.write_some.Given as goal
 
 abbrev pub invariant-writes : goal.invariant-writes
 invariant-writes g l =

@@ -1,7 +1,7 @@
 use Rattle.std.proofs.Common.{rules, ◌≡◌, ◌++◌, List, ℕ, sym, subst}
-use Rattle.hk_pipes.specs.Pipes.{TakesFront}
-use Rattle.hk_pipes.proofs.Pieces.{all_taken, front_before, front_behind}
-use Rattle.hk_pipes.proofs.unwritten.Unwritten.put_at_once.Goals as goal
+use Rattle.hk_exchange.specs.Pipes.{TakesFront}
+use Rattle.hk_exchange.proofs.Pieces.{all_taken, front_before, front_behind}
+use Rattle.hk_exchange.proofs.unwritten.Unwritten.put_at_once.Goals as goal
 
 pub returns-then-not-write-clause-taken : goal.returns-then-not-write-clause-taken
 returns-then-not-write-clause-taken g c = front_before _ _ _ _ _ c.args.out.now.items c.write.ensures.taken

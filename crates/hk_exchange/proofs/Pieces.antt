@@ -4,7 +4,7 @@ use Rattle.std.specs.Io.KnownBytes.{Keeps}
 use Rattle.std.proofs.KnownBytes.{Appends-trans, Appends-nil, Appends-kept}
 use Rattle.std.proofs.lemmas.List.{drop-drop, take-append-drop, append_cancel_left}
 use Rattle.std.proofs.Math.Seq.{take-add}
-use Rattle.hk_pipes.specs.Pipes.{Takes, TakesFront}
+use Rattle.hk_exchange.specs.Pipes.{Takes, TakesFront}
 
 pub takes_nothing : (a : Option (List ℕ)) (s : List ℕ) → Takes a a s s []
 takes_nothing a s = (sym (append-nil s), Appends-nil a)

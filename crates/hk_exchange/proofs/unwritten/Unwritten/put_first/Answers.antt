@@ -1,7 +1,7 @@
 use Rattle.std.proofs.Common.{rules, take}
-use Rattle.hk_pipes.specs.Pipes.{Takes}
-use Rattle.hk_pipes.proofs.Pieces.{front_of}
-use Rattle.hk_pipes.proofs.unwritten.Unwritten.put_first.Goals as goal
+use Rattle.hk_exchange.specs.Pipes.{Takes}
+use Rattle.hk_exchange.proofs.Pieces.{front_of}
+use Rattle.hk_exchange.proofs.unwritten.Unwritten.put_first.Goals as goal
 
 pub returns-then-len-count-gt-MOST_HELD-clause-taken : goal.returns-then-len-count-gt-MOST_HELD-clause-taken
 returns-then-len-count-gt-MOST_HELD-clause-taken g c =

@@ -1,7 +1,7 @@
 use Rattle.std.proofs.Common.{rules, take}
-use Rattle.hk_pipes.specs.Pipes.{Takes}
-use Rattle.hk_pipes.proofs.Pieces.{front_of}
-use Rattle.hk_pipes.proofs.unwritten.Unwritten.write.Goals as goal
+use Rattle.hk_exchange.specs.Pipes.{Takes}
+use Rattle.hk_exchange.proofs.Pieces.{front_of}
+use Rattle.hk_exchange.proofs.unwritten.Unwritten.write.Goals as goal
 
 pub returns-clause-taken : goal.returns-clause-taken
 returns-clause-taken g c =
