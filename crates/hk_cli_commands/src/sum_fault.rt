@@ -1,6 +1,6 @@
 //! Why a checksum in an input is refused, in words.
 
-use hk_cli_sums::{Sum, SumFault, SumFlaw};
+use hk_cli_input::{Sum, SumFault, SumFlaw};
 use std::alloc::AllocError;
 
 /// What to do with a file that is corrupt.

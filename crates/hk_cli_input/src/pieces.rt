@@ -13,7 +13,7 @@ use std::io::Read;
 /// How many bytes are asked for in one read.
 pub const PIECE_BYTES: usize = 65_536;
 
-/// The most reads of one input.
+/// The most reads of one input, and for one read of `Summed`.
 pub const MOST_READS: u64 = 4_294_967_296;
 
 /// What receives the pieces of an input, one after the other.

@@ -5,8 +5,8 @@ ghost use Rattle.hk_types.specs.declared.faults.Refusal.TheVariants.{Form, Memor
 ghost use Rattle.hk_cli_input.specs.declared.stop.Stop.TheVariants.{Refused};
 ghost use Rattle.hk_cli_input.specs.Stops.{refusal_of, device_number, placed};
 
+use crate::summed::SumFault;
 use hk_cli_reasons::{Origin, Place};
-use hk_cli_sums::SumFault;
 use hk_types::{FormFault, Refusal};
 use std::alloc::AllocError;
 

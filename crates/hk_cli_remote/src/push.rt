@@ -2,9 +2,8 @@
 
 use crate::link::{Link, asked_of, refusal_of};
 use hk_cli_commands::Output;
-use hk_cli_input::{Pieces, Stop, kind_at_head, read_pieces};
+use hk_cli_input::{Pieces, Stop, Summed, kind_at_head, read_pieces};
 use hk_cli_reasons::{Origin, RequestContext};
-use hk_cli_sums::Summed;
 use hk_messages::{LaterRequest, Reply, Request, RequestFeeder};
 use hk_types::{FormFault, Refusal};
 use std::alloc::Global;

@@ -1,6 +1,6 @@
 //! A line of FILE.sums, beside a log in a file.
 
-use hk_cli_sums::Checksum;
+use hk_cli_input::Checksum;
 use std::alloc::{AllocError, Global};
 
 /// What a line says of its block.

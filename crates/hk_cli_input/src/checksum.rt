@@ -2,7 +2,7 @@
 
 ghost use Rattle.std.specs.Prelude.{◌≡◌, ◌++◌, List, ℕ, []};
 ghost use Rattle.sha2.specs.Sha256.{sha256};
-ghost use Rattle.hk_cli_sums.specs.Sums.{Holds, sum_head};
+ghost use Rattle.hk_cli_input.specs.Sums.{Holds, sum_head};
 
 use sha2::{Digest, Sha256};
 

@@ -1,7 +1,7 @@
 -- Checksums of frames.
 use Rattle.std.specs.Prelude.{ℕ, List, [], ◌∷◌}
 use Rattle.sha2.specs.Hashers.{Holds256}
-use Rattle.hk_cli_sums.specs.declared.checksum.Checksum.{Checksum}
+use Rattle.hk_cli_input.specs.declared.checksum.Checksum.{Checksum}
 
 -- these bytes were added to a checksum
 abbrev pub Holds : Checksum → List ℕ → Type 0

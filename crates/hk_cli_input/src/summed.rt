@@ -3,15 +3,10 @@
 ghost use Rattle.std.specs.Prelude.{◌≡◌, ◌≤◌, ◌↔◌, length, IsNone};
 
 use crate::checksum::{Checksum, SUM_FORMAT, SUM_FRAME_BYTES, Sum};
+use crate::pieces::{MOST_READS, PIECE_BYTES};
 use std::alloc::{AllocError, Global};
 use std::io;
 use std::io::{ErrorKind, Read};
-
-/// How many bytes are asked for in one read.
-const PIECE_BYTES: usize = 65_536;
-
-/// The most reads for one of the caller's.
-const MOST_READS: u64 = 4_294_967_296;
 
 /// How many bytes of a frame say what it is: its length, its version and its kind.
 const HEAD_BYTES: usize = 6;
