@@ -1,6 +1,6 @@
 //! The words of a node's lines.
 
-use hk_cli_events::LineKind;
+use hk_budgets::LineKind;
 use hk_cli_reasons::{Place, put_known};
 use hk_host::{Speech, Subject};
 use std::alloc::{AllocError, Global};

@@ -3,8 +3,8 @@
 use crate::event_words::{ended_words, known_words, more_words, refused_words, speech_word};
 use crate::failures::Failures;
 use crate::head::{Heads, LineLog};
+use hk_budgets::{LineKind, LineLimit};
 use hk_cli_calls::Level;
-use hk_cli_events::{LineKind, LineLimit};
 use hk_cli_reasons::Place;
 use hk_host::{LinkEvent, Speech, Subject};
 use hk_net::Watch;
