@@ -23,7 +23,7 @@ use Rattle.hk_fragment.proofs.ListedVersions.{get-among, lists_back}
 use Rattle.hk_facts.proofs.StoredTrees.{and_T}
 
 -- a test that shows no fault failed, and what follows it shows none
-passed : (b : Bool) (f : FormFault) (rest : Option FormFault) → cond (not b) (Some f) rest ≡ None → (b ≡ true) × (rest ≡ None)
+pub passed : (b : Bool) (f : FormFault) (rest : Option FormFault) → cond (not b) (Some f) rest ≡ None → (b ≡ true) × (rest ≡ None)
 passed true f rest e = (refl, e)
 passed false f rest e = absurd cc
 
@@ -84,12 +84,12 @@ parts_of base horizon v x e =
     let c = and_parts (ltb 0 v.born) (is_known x) b.0 in
     record { born = ltb-true _ _ c.0; known = c.1; row = b.1; died = a.1 }
 
-record EndIs (base horizon born died : ℕ) : Type 0 where
+pub record EndIs (base horizon born died : ℕ) : Type 0 where
   pub above : base < died
   pub over : horizon < died
   pub later : born < died
 
-end_is : (base horizon born died : ℕ) → is_valid_end base horizon born (Some died) ≡ true → EndIs base horizon born died
+pub end_is : (base horizon born died : ℕ) → is_valid_end base horizon born (Some died) ≡ true → EndIs base horizon born died
 end_is base horizon born died e =
     let a = and_parts (ltb base died && ltb horizon died) (ltb born died) e in
     let b = and_parts (ltb base died) (ltb horizon died) a.0 in

@@ -5,3 +5,4 @@ pub mod MergedLists
 pub mod BinarySearch
 pub mod UnionOfFragments
 pub mod RisingParts
+pub mod LoweredFragments

@@ -84,6 +84,10 @@ abbrev pub checked_fragment : ConfigValue → ℕ → ℕ → List StreamContent
 checked_fragment config base horizon streams facts =
     unless (fragment_fault base horizon streams facts) (fragment_seen config base horizon streams facts)
 
+-- a fragment that states this oldest readable time, where that is lower than its own
+abbrev pub lowered : FragmentValue → ℕ → FragmentValue
+lowered f k = if nat_lt k f.content.horizon then record f { content = record f.content { horizon = k } } else f
+
 -- what holds of the parts of every fragment
 pub record IsFragment (config : ConfigValue) (base horizon : ℕ) (streams : List StreamContent) (facts : List Known) : Type 0 where
   pub as_many : length streams ≡ config.streams

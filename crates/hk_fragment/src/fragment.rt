@@ -228,6 +228,17 @@ impl Fragment {
         }
     }
 
+    /// States a lower oldest readable time; one that isn't lower changes nothing. Where a delta, whose base is above 0, states less than
+    /// the replica that it was cut from, a replica that joins it keeps what is readable in it from that time on, and the same follows as
+    /// where it was cut from one that was pruned less: the law `lowered_law` of hk_model. It takes no memory. Cost: O(1).
+    pub fn lower_horizon(&mut self, horizon: Time)
+        ensures { self.new ≡ spec.lowered self.old horizon }
+    {
+        if horizon < self.horizon {
+            self.horizon = horizon;
+        }
+    }
+
     /// Adds the facts, numbers and marks of another fragment with `base` 0 and `horizon` 0. The only refusal is
     /// `Memory`, and then nothing is changed. Cost: O(n + w · log w + b), n facts of both, w numbers and marks of
     /// both that wait for others, b bytes of the other one's bodies, which are copied.

@@ -168,6 +168,15 @@ impl TimedRows {
         })
     }
 
+    /// The time that so many of those in the order of time have at least, or 0 where there are fewer. It promises nothing. Cost: O(1).
+    pub fn time_back(&self, many: usize) -> u64 {
+        let place = self.ordered.saturating_sub(many);
+        match self.rows.get(place) {
+            Some(timed) if many <= self.ordered => timed.time,
+            _few => 0,
+        }
+    }
+
     /// Notes that so many name nothing any more. It promises nothing.
     pub fn note_gone(&mut self, many: u64)
         ensures { self.new ≡ self.old }

@@ -1,7 +1,8 @@
 //! The seats of readers, which take no lock and never wait: a seat is a reader's session with monotonic reads.
 
-ghost use Rattle.std.specs.Prelude.{◌≡◌, ◌≢◌, ◌⊎◌, All, true, length, IfOk, IfErr, IfSome, IsTrue, vec_len};
+ghost use Rattle.std.specs.Prelude.{◌≡◌, ◌≢◌, ◌≤◌, ◌⊎◌, All, true, length, IfOk, IfErr, IfSome, IsTrue, vec_len};
 ghost use Rattle.hk_types.specs.declared.faults.Refusal.TheVariants.{Damaged, Memory};
+ghost use Rattle.hk_model.specs.Replica.Content.{readable};
 ghost use Rattle.hk_model.specs.Replica.Pages.{page_seen};
 ghost use Rattle.hk_model.specs.Replica.StreamsTold.{streams_seen};
 ghost use mathlib.Core.List.{IsPrefix};
@@ -362,6 +363,20 @@ impl<J: NodeName> ReaderSeat<J> {
         let sizes = reading.get().body.sizes();
         self.leave(reading);
         Ok(sizes)
+    }
+
+    /// A time from which on the node holds so many rows and ends, at most its resolved time, or 0 where there are fewer: as near to the
+    /// end as that is known at once, which no clause says. The only refusal is `Memory`, where the seat can't enter. Cost: O(s), s streams.
+    pub fn time_back(&mut self, many: u64) -> Result<Time, Refusal>
+        ensures legal { is_legal self.new ≡ true }
+        ensures seen { IsPrefix self.old self.new }
+        ensures readable { IfOk result (λ time. time ≤ readable (replay self.new).content) }
+        ensures err { IfErr result (λ why. why ≡ Memory) }
+    {
+        let reading = self.enter()?;
+        let time = reading.get().body.time_back(many);
+        self.leave(reading);
+        Ok(time)
     }
 
     /// The tables of which the node holds a row or an end, by rising number: of a failed node too. The only refusal is `Memory`.

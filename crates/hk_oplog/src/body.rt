@@ -580,6 +580,19 @@ impl Body {
         })
     }
 
+    /// A time from which on so many rows and ends are held, at most the resolved time, or 0 where there are fewer: as near to the end as
+    /// that is known at once, which no clause says. It takes no memory. Cost: O(s), s streams.
+    pub fn time_back(&self, many: u64) -> Time
+        ensures { result ≤ readable self.now.content }
+    {
+        let back = self.state.facts().time_back(many);
+        let resolved = self.state.readable();
+        if resolved < back {
+            return resolved;
+        }
+        back
+    }
+
     /// How much it holds, and how far its list is, even where it failed. It takes no memory. Cost: O(1).
     pub fn sizes(&self) -> NodeSizes
         ensures operations { result.operations ≡ self.now.op_count }

@@ -90,6 +90,12 @@ impl Facts {
         self.sought(alloc, &sought)
     }
 
+    /// A time from which on so many rows and ends are known, those left out that came late, or 0 where there are fewer. It promises
+    /// nothing. Cost: O(1).
+    pub fn time_back(&self, many: u64) -> Time {
+        Time::new(self.stated.time_back(many as usize)).unwrap_or(Time::zero())
+    }
+
     /// The versions that are looked for, with what is known of them, in rising order.
     fn sought(&self, alloc: Global, sought: &Sought) -> Result<Vec<(VersionKey, &Version)>, Refusal>
         ensures ok { IfOk result (λ found.
