@@ -21,7 +21,7 @@ pub(crate) enum Grade {
 }
 
 impl Grade {
-    fn level(self) -> Level {
+    pub(crate) fn level(self) -> Level {
         match self {
             Grade::Info => Level::Info,
             Grade::Warn => Level::Warn,

@@ -3,6 +3,7 @@
 
 mod event_words;
 mod failures;
+mod following;
 mod head;
 mod link_reporter;
 mod listening;
@@ -13,6 +14,7 @@ mod outcome;
 mod serve;
 mod starting;
 mod stay;
+mod telling;
 mod texts;
 
 pub use hk_cli_commands::{

@@ -5,6 +5,7 @@ ghost use Rattle.std.specs.Thread.{IsSync};
 
 use crate::head::{Grade, Heads, tell_source};
 use crate::outcome::{Begun, Outcome};
+use crate::telling::name_of as place_name;
 use hk_budgets::PartsBudget;
 use hk_cli_calls::{Limits, NodePlace, OutputForm, Start};
 use hk_cli_commands::Output;
@@ -40,7 +41,7 @@ const NO_CHECKSUM: &str =
     "it has no checksum, so corrupt bytes may not show; 'hkrep save' writes one\n";
 
 /// The origin of what a node of the same program refuses.
-const HERE: Origin = Origin {
+pub(crate) const HERE: Origin = Origin {
     place: Place::Whole,
     asked: RequestContext::Nothing,
 };
@@ -232,14 +233,12 @@ fn event_of(source: Source<'_>) -> &'static str {
 fn name_of(alloc: Global, source: Source<'_>) -> Result<String, AllocError> {
     match source {
         Source::File(name) => String::from_str(alloc, name),
-        Source::Node(NodePlace::Port(port), _) => format!(in alloc; "127.0.0.1:{port}"),
-        Source::Node(NodePlace::Address(address), _) => String::from_str(alloc, address),
-        Source::Node(NodePlace::Path(path), _) => format!(in alloc; "unix:{path}"),
+        Source::Node(place, _) => place_name(alloc, place),
     }
 }
 
 /// Adds in words why something stopped.
-fn explain(alloc: Global, stop: Stop, words: &mut Vec<u8>) {
+pub(crate) fn explain(alloc: Global, stop: Stop, words: &mut Vec<u8>) {
     let mut lines = Vec::new(alloc);
     let mut output = Output::of_form(alloc, OutputForm::Bytes, &mut lines, words);
     let _status = output.stop(stop);

@@ -1,8 +1,9 @@
 //! A long-running node: the command `node`.
 
-ghost use Rattle.std.specs.Prelude.{◌≡◌, ◌<◌, ◌≤◌};
+ghost use Rattle.std.specs.Prelude.{◌≡◌, ◌+◌, ◌<◌, ◌≤◌};
 ghost use Rattle.std.specs.Thread.{IsSend, IsSync};
 
+use crate::following::{Followed, FollowingGuest, Giving, begin_following, guests_of};
 use crate::head::{Heads, heads_of, note_text};
 use crate::link_reporter::LinkReporter;
 use crate::listening::{many_listener_of, most_files, port_of, socket_listener};
@@ -14,16 +15,20 @@ use crate::starting::begin;
 use crate::texts::{Backlog, MOST_WAITING, Text, TextWriter, write_texts};
 use crossbeam_channel::{Sender, bounded};
 use hk_budgets::PartsBudget;
-use hk_cli_calls::{IS_PROVED, Level, OtherPort, OutputForm, PartsLimit, Start, Stay};
+use hk_cli_calls::{
+    IS_PROVED, Level, MOST_SOURCES, OtherPort, OutputForm, PartsLimit, Start, Stay,
+};
 use hk_cli_commands::Output;
 use hk_cli_events::WrappedWords;
 use hk_cli_input::Stop;
-use hk_host::NetFault;
+use hk_cli_reasons::Place;
+use hk_host::{Bell, NetFault};
 use hk_meters::Meters;
-use hk_net::{Door, Limits, serve_forever};
+use hk_net::{Door, Limits, bell_of, serve_forever};
 use hk_node::{NewList, Node, NodeName, ReaderSeat, start};
 use hk_types::{Config, Refusal};
 use log::warn;
+use mio::Poll;
 use std::alloc::{AllocError, Global};
 use std::fs::{File, Files};
 use std::io::Write;
@@ -32,11 +37,13 @@ use std::net::{Net, SocketAddr, TcpListener, TcpStream};
 use std::os::unix::net::UnixListener;
 use std::rt::Clock;
 use std::sync::Wait;
-use std::thread::Threads;
+use std::thread::{Scope, Threads};
 use std::{mem, thread};
 
 /// How many workers give short answers at most: a node has 64 seats, one for each worker.
 const MOST_WORKERS: usize = 31;
+
+const MOST_SEATS: usize = 64;
 
 /// How many files a node has open beside its connections: at most for its standard streams and listeners, and for each worker for short
 /// answers and that for long ones.
@@ -258,12 +265,25 @@ fn workers_of<R: Threads>(rt: &R, stay: &Stay<'_>) -> usize
     count.clamp(1, MOST_WORKERS)
 }
 
-/// How many seats a node has: one for each of its workers.
-fn seats_wanted(workers: usize) -> usize
-    requires { (0 < workers) × (workers ≤ 31) }
-    ensures { (0 < result) × (result ≤ 64) }
+/// How many nodes it follows.
+fn follows_of(stay: &Stay<'_>) -> usize
+    ensures { result ≤ 8 }
 {
-    workers + workers
+    let mut count = 0usize;
+    for place in &stay.start.follows {
+        if place.is_some() {
+            count = count.saturating_add(1);
+        }
+    }
+    count.min(MOST_SOURCES)
+}
+
+/// How many workers give short answers where it follows so many nodes.
+fn workers_beside(workers: usize, follows: usize) -> usize
+    requires { (0 < workers) × (workers ≤ 31) × (follows ≤ 8) }
+    ensures { (0 < result) × (result ≤ 31) × (result + result + follows ≤ 64) }
+{
+    workers.min((MOST_SEATS - follows) / 2)
 }
 
 /// What a node found as it opened.
@@ -346,7 +366,7 @@ fn tell_files<C: Clock, W: Write, E: Write>(
 )
     requires { workers ≤ 31 }
 {
-    let others = OTHER_FILES + FILES_A_WORKER * workers as u64;
+    let others = OTHER_FILES + FILES_A_WORKER * workers as u64 + follows_of(stay) as u64;
     let links = links_wanted(stay);
     let wanted = links.saturating_add(others);
     let Some(most) = most_files().filter(|most| *most < wanted) else {
@@ -379,6 +399,17 @@ fn limits_of(stay: &Stay<'_>) -> Limits {
     }
 }
 
+/// What connections are served with.
+#[derive(Drop)]
+struct Service<'d, J: NodeName, N: Wait + Drop> {
+    meters: &'d Meters<'d>,
+    limits: Limits,
+    bell: &'d Bell,
+    polls: Vec<Poll>,
+    seats: Vec<ReaderSeat<J>>,
+    doors: Vec<Door<'d, J, N>>,
+}
+
 /// Serves connections without an end, and hands on what is printed of them.
 fn serve_doors<
     'd,
@@ -390,60 +421,105 @@ fn serve_doors<
     alloc: Global,
     heads: Heads<'d, R>,
     level: Level,
-    doors: Vec<Door<'d, J, N>>,
-    seats: Vec<ReaderSeat<J>>,
-    limits: Limits,
-    meters: &'d Meters<'d>,
+    service: Service<'d, J, N>,
     texts: Sender<Text>,
     backlog: &Backlog,
 ) -> Result<(), NetFault> {
     let words = TextWriter::new(rt, alloc, &texts, backlog);
     let mut reporter = LinkReporter::new(alloc, &heads, words, level);
-    serve_forever(rt, alloc, doors, seats, limits, meters, &mut reporter)
+    let Service {
+        meters,
+        limits,
+        bell,
+        polls,
+        seats,
+        doors,
+    } = service;
+    let watch = &mut reporter;
+    serve_forever(rt, alloc, doors, seats, polls, bell, limits, meters, watch)
 }
 
-/// The same, and writes what is printed: this thread alone waits where nobody reads it.
-fn serve_writing<
-    'd,
-    J: NodeName + Send + Sync,
-    N: Wait + Drop + Send + Sync,
-    R: Net<Listener = TcpListener, Stream = TcpStream> + Threads + Wait + Clock + Sync,
-    W: Write,
-    E: Write,
->(
-    rt: &'d R,
+/// Starts the thread of each guest. Returns false where one can't be started.
+fn start_guests<'s, E, J: NodeName + Send + Sync + 's, N: Wait + Drop + Send + Sync + 's, R>(
+    scope: &Scope<'s, E>,
+    rt: &'s R,
+    bell: &'s Bell,
+    guests: Vec<(FollowingGuest<'s, J, N>, ReaderSeat<J>)>,
+) -> bool
+where
+    R: Net<Listener = TcpListener, Stream = TcpStream> + Clock + Alloc<A = Global>,
+    R: Threads + Wait + Sync,
+{
+    let mut all = true;
+    for (guest, seat) in guests {
+        all &= scope.spawn(move || guest.stay(rt, seat, bell)).is_ok();
+    }
+    all
+}
+
+/// Takes as many seats from the last ones as it follows nodes.
+fn seats_of_guests<J: NodeName>(
     alloc: Global,
     stay: &Stay<'_>,
-    doors: Vec<Door<'d, J, N>>,
-    seats: Vec<ReaderSeat<J>>,
-    meters: &'d Meters<'d>,
+    seats: &mut Vec<ReaderSeat<J>>,
+) -> Result<Vec<ReaderSeat<J>>, AllocError> {
+    let mut taken = Vec::new(alloc);
+    for _ in 0..follows_of(stay) {
+        if let Some(seat) = seats.pop() {
+            taken.push(seat)?;
+        }
+    }
+    Ok(taken)
+}
+
+/// The same beside what follows others, and writes what is printed: this thread alone waits where nobody reads it.
+fn serve_writing<
+    'd,
+    W: Write,
+    E: Write,
+    J: NodeName + Send + Sync,
+    N: Wait + Drop + Send + Sync,
+    R: Net<Listener = TcpListener, Stream = TcpStream>
+        + Clock
+        + Alloc<A = Global>
+        + Threads
+        + Wait
+        + Sync,
+>(
+    rt: &'d R,
+    stay: &'d Stay<'d>,
+    service: Service<'d, J, N>,
+    followed: Followed<'d, J, N>,
     output: &mut Output<'_, W, E>,
 ) -> Result<(), NetFault> {
+    let alloc = rt.alloc();
     let (level, heads) = (stay.level, heads_of(rt, alloc, stay));
-    let limits = limits_of(stay);
     let told_heads = heads_of(rt, alloc, stay);
+    let (bell, giving) = (service.bell, followed.giving);
     let backlog = Backlog::new();
     let backlog = &backlog;
     let (texts, told) = bounded::<Text, _>(alloc, MOST_WAITING)?;
+    let guests = guests_of(alloc, followed, stay, &texts, backlog)?;
     thread::scope(
         thread::scope_env(),
         rt,
         |scope| -> Result<(), NetFault>
             requires { IsSend J.row × IsSync J.row × IsSend N.row × IsSync N.row × IsSync R.row }
         {
-            let serving = scope
-                .spawn(move || {
-                    serve_doors(
-                        rt, alloc, heads, level, doors, seats, limits, meters, texts, backlog,
-                    )
-                })
-                .ok();
+            let serving = scope.spawn(move || {
+                let served = serve_doors(rt, alloc, heads, level, service, texts, backlog);
+                giving.end();
+                served
+            });
             match serving {
-                Some(serving) => {
+                Ok(serving) => {
+                    if !start_guests(scope, rt, bell, guests) {
+                        output.tell_known(Place::Whole, "not started", 90);
+                    }
                     write_texts(rt, &told_heads, &told, backlog, output);
                     serving.join(rt)
                 }
-                None => Err(NetFault::Memory),
+                Err(_unstarted) => Err(NetFault::Memory),
             }
         },
     )
@@ -514,17 +590,23 @@ where
         + Alloc<A = Global>,
     R: Threads + Wait + Sync,
 {
-    /// Has a node take what it begins with, on one of its seats.
+    /// Has a node take what it begins with, on one of its seats: last what the first of those that it follows has that gives something.
     fn take_on_seat<J: NodeName, N: Wait + Drop, W: Write, E: Write>(
         &self,
         node: &Node<J, N>,
-        start: &Start<'_>,
+        giving: &mut Giving,
         seats: &mut Vec<ReaderSeat<J>>,
         output: &mut Output<'_, W, E>,
     ) -> Result<Begun, Stop> {
+        let (rt, stay) = (self.rt, self.stay);
         let mut seat = seats.pop();
-        let heads = heads_of(self.rt, self.rt.alloc(), self.stay);
-        let begun = begin(self.rt, &heads, node, &mut seat, start, output);
+        let heads = heads_of(rt, rt.alloc(), stay);
+        let mut begun = begin(rt, &heads, node, &mut seat, &stay.start, output);
+        if !matches!(begun, Begun::Refused)
+            && begin_following(rt, node, &mut seat, stay, giving, output)?
+        {
+            begun = Begun::WithData;
+        }
         put_back(seat, seats)?;
         Ok(begun)
     }
@@ -533,13 +615,13 @@ where
     fn take_start<J: NodeName, N: Wait + Drop, W: Write, E: Write>(
         &self,
         node: &Node<J, N>,
+        giving: &mut Giving,
         seats: &mut Vec<ReaderSeat<J>>,
         output: &mut Output<'_, W, E>,
     ) -> Result<(), Stop> {
-        let start = &self.stay.start;
-        let begun = self.take_on_seat(node, start, seats, output)?;
+        let begun = self.take_on_seat(node, giving, seats, output)?;
         output.flush()?;
-        begun_checked(start, begun, output)
+        begun_checked(&self.stay.start, begun, output)
     }
 
     /// The meters of a node with so many doors, and prints that connections can be opened.
@@ -558,6 +640,8 @@ where
     /// Serves connections at the doors of a node without an end.
     fn stay_at<J: NodeName + Send + Sync, W: Write, E: Write>(
         &self,
+        node: &Node<J, &'o R>,
+        giving: &Giving,
         doors: Vec<Door<'_, J, &'o R>>,
         seats: &mut Vec<ReaderSeat<J>>,
         budgets: &Budgets,
@@ -566,14 +650,30 @@ where
     ) -> Result<(), Stop> {
         let (rt, stay) = (self.rt, self.stay);
         let meters = self.begun(budgets, doors.len(), opened, output)?;
-        let seats = mem::replace(seats, Vec::new(rt.alloc()));
-        serve_writing(rt, rt.alloc(), stay, doors, seats, &meters, output).map_err(stop_of)
+        let mut seats = mem::replace(seats, Vec::new(rt.alloc()));
+        let others = seats_of_guests(rt.alloc(), stay, &mut seats)?;
+        let (polls, bell) = bell_of(rt, rt.alloc(), seats.len()).map_err(stop_of)?;
+        let service = Service {
+            meters: &meters,
+            limits: limits_of(stay),
+            bell: &bell,
+            polls,
+            seats,
+            doors,
+        };
+        let followed = Followed {
+            node,
+            giving,
+            seats: others,
+        };
+        serve_writing(rt, stay, service, followed, output).map_err(stop_of)
     }
 
     /// Opens the ports and sockets of a node, and serves connections to it without an end.
     fn stay_open<J: NodeName + Send + Sync, W: Write, E: Write>(
         &self,
         node: &Node<J, &'o R>,
+        giving: &Giving,
         seats: &mut Vec<ReaderSeat<J>>,
         output: &mut Output<'_, W, E>,
     ) -> Result<(), Stop> {
@@ -588,7 +688,7 @@ where
         };
         let budgets = Budgets::new(rt.alloc(), opened.parts_bytes, stay)?;
         let doors = doors_of(rt.alloc(), node, stay, &listeners, &budgets)?;
-        self.stay_at(doors, seats, &budgets, opened, output)
+        self.stay_at(node, giving, doors, seats, &budgets, opened, output)
     }
 
     /// Has a new node of this list take what it begins with, and serves connections to it without an end.
@@ -600,10 +700,13 @@ where
         requires { list ≡ (J.book, J.kind) }
     {
         let (rt, stay) = (self.rt, self.stay);
-        let wanted = seats_wanted(workers_of(rt, stay));
+        let follows = follows_of(stay);
+        let workers = workers_beside(workers_of(rt, stay), follows);
+        let wanted = workers + workers + follows;
         let (node, mut seats) = start::<J, &'o R>(rt, rt.alloc(), list, wanted)?;
-        self.take_start(&node, &mut seats, output)?;
-        self.stay_open(&node, &mut seats, output)
+        let mut giving = Giving::new(rt.alloc());
+        self.take_start(&node, &mut giving, &mut seats, output)?;
+        self.stay_open(&node, &giving, &mut seats, output)
     }
 
     /// Starts a node of a log, and serves connections to it without an end.
@@ -626,7 +729,8 @@ fn status_of<W: Write, E: Write>(ended: Result<(), Stop>, output: &mut Output<'_
 
 /// Starts a node of a log, and serves connections to it without an end: a place is free again when its connection ends. It first takes
 /// what a file of `save` has, and then what the first of other nodes that answers has above that; neither needs to be there, unless it
-/// is asked for. Prints one line of what it opened once connections can be opened, and no other.
+/// is asked for. It follows nodes from then on, each in a thread of its own, and takes what one of them has and it lacks, as it comes.
+/// Prints one line of what it opened once connections can be opened, and no other.
 ///
 /// It ends, and the status is 1, only where one of these happens: a port can't be listened to, memory ran out for the node or its
 /// threads, that line can't be written, or nothing was taken that is asked for. Each connection that opens and ends, each change that

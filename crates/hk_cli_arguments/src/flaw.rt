@@ -18,6 +18,10 @@ pub(crate) enum WordFlaw {
     Source,
     /// This one of `--from` of a node names none, or is one too many.
     Sources,
+    /// This one of `--follow` names none, or is one too many.
+    Upstreams,
+    /// That of `--follow-prunes` is neither yes nor no.
+    YesOrNo,
     /// This one of `--load` is one too many.
     Files,
     /// That of `--link-bytes` is no number of bytes and no share of the memory.
@@ -37,6 +41,8 @@ pub(crate) enum Flaw<'a> {
     Word(&'a str, WordFlaw),
     /// A number from which no call can be made.
     Range,
+    /// A node would have more threads than seats.
+    Seats,
     /// Item frames are asked without a time.
     NoTime,
     /// The time is given before the query and behind it.
@@ -63,6 +69,10 @@ fn words_behind(flaw: WordFlaw) -> &'static str {
         WordFlaw::Sources => {
             " for '--from <NODE>': up to 8 nodes are wanted; a port is 1 to 65535; "
         }
+        WordFlaw::Upstreams => {
+            " for '--follow <NODE>': up to 8 nodes are wanted; a port is 1 to 65535; "
+        }
+        WordFlaw::YesOrNo => " for '--follow-prunes <yes|no>': yes or no is wanted",
         WordFlaw::Files => " for '--load <FILE>': up to 8 files are wanted",
         WordFlaw::Chunks => {
             " for '--link-bytes <BYTES>': a number of bytes is wanted, or 1% to 100% of the memory"
@@ -80,7 +90,8 @@ fn words_behind(flaw: WordFlaw) -> &'static str {
 /// What an address is, where the word was to be one.
 fn address_behind(flaw: WordFlaw) -> &'static str {
     match flaw {
-        WordFlaw::Node | WordFlaw::Variable | WordFlaw::Source | WordFlaw::Sources => ADDRESS,
+        WordFlaw::Node | WordFlaw::Variable | WordFlaw::Source => ADDRESS,
+        WordFlaw::Sources | WordFlaw::Upstreams => ADDRESS,
         _other => "",
     }
 }
@@ -96,6 +107,9 @@ fn words_of(flaw: Flaw<'_>) -> &'static str {
         }
         Flaw::NoNodeToWait => "--wait is for a node that runs: it can't be given with --log",
         Flaw::TwoTimes => "the time is given twice: give TIME before the query, or --at TIME",
+        Flaw::Seats => {
+            "a node has 64 seats: two for each of --workers, and one for each node of --follow; give fewer workers"
+        }
         Flaw::Backwards => "LOW is above HIGH: a range goes from its least key to its greatest",
         Flaw::NoSuchCommand => "no such command",
         Flaw::NoCommand => "a command is missing",

@@ -288,6 +288,8 @@ fn words_of_serving(form: CommandForm) -> &'static [Word] {
         CommandForm::Serve => &[Word::Guard],
         CommandForm::Node => &[
             Word::Sources,
+            Word::Upstreams,
+            Word::UpstreamsPrune,
             Word::Load,
             Word::LoadOrEmpty,
             Word::NeedData,

@@ -24,6 +24,9 @@ const PARTS_PERCENT: u64 = 25;
 /// How many connections the first port serves by default.
 const LINKS: u16 = 64;
 
+/// How many seats a node has.
+const MOST_SEATS: usize = 64;
+
 /// What this word limits snapshots in chunks to, where it is a number or a number of hundredths.
 fn limit_named(word: &str) -> Option<PartsLimit> {
     match word.strip_suffix('%') {
@@ -77,14 +80,14 @@ impl<'a> Sources<'a> {
     }
 }
 
-/// The nodes of which one is asked for what it has.
-fn sources_of<'a>(matches: &ArgMatches<'a>) -> Sources<'a> {
+/// The nodes that this option names.
+fn sources_of<'a>(matches: &ArgMatches<'a>, name: &str) -> Sources<'a> {
     let mut sources = Sources {
         places: [None; MOST_SOURCES],
         count: 0,
         bad: None,
     };
-    if let Some(values) = matches.get_strs("from") {
+    if let Some(values) = matches.get_strs(name) {
         for value in values {
             sources.add_all(value);
         }
@@ -206,11 +209,40 @@ fn forms_checked<'a>(matches: &ArgMatches<'a>) -> Result<(), Flaw<'a>> {
     }
 }
 
+/// Whether a node prunes what those that it follows prune, where the word that is given is yes or no.
+fn is_pruning(matches: &ArgMatches<'_>) -> Option<bool> {
+    match matches.get_str("follow-prunes") {
+        None | Some("yes") => Some(true),
+        Some("no") => Some(false),
+        _other => None,
+    }
+}
+
+/// Whether the nodes that one follows are written as these are, and it has seats for them.
+fn follows_checked<'a>(matches: &ArgMatches<'a>) -> Result<(), Flaw<'a>> {
+    let follows = sources_of(matches, "follow");
+    if let Some(word) = follows.bad {
+        return Err(Flaw::Word(word, WordFlaw::Upstreams));
+    }
+    match matches.get_str("follow-prunes") {
+        Some(word) if is_pruning(matches).is_none() => {
+            return Err(Flaw::Word(word, WordFlaw::YesOrNo));
+        }
+        _given => {}
+    }
+    let workers = usize::from(count_of(matches, "workers"));
+    if workers.saturating_mul(2).saturating_add(follows.count) > MOST_SEATS {
+        return Err(Flaw::Seats);
+    }
+    Ok(())
+}
+
 /// Whether what a node begins with, and the forms of its options, are written as these are.
 pub(crate) fn start_checked<'a>(matches: &ArgMatches<'a>) -> Result<(), Flaw<'a>> {
-    if let Some(word) = sources_of(matches).bad {
+    if let Some(word) = sources_of(matches, "from").bad {
         return Err(Flaw::Word(word, WordFlaw::Sources));
     }
+    follows_checked(matches)?;
     if let Some(word) = files_of(matches).bad {
         return Err(Flaw::Word(word, WordFlaw::Files));
     }
@@ -222,7 +254,9 @@ fn start_of<'a>(matches: &ArgMatches<'a>) -> Start<'a> {
     Start {
         files: files_of(matches).names,
         may_lack_file: has_flag(matches, "load-or-empty"),
-        sources: sources_of(matches).places,
+        sources: sources_of(matches, "from").places,
+        follows: sources_of(matches, "follow").places,
+        follow_prunes: is_pruning(matches).unwrap_or(true),
         needs_data: has_flag(matches, "need-data"),
         read_rate: read_rate_of(matches),
     }

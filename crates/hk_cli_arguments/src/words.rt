@@ -21,6 +21,8 @@ pub(crate) enum Word {
     Tables,
     Guard,
     Sources,
+    Upstreams,
+    UpstreamsPrune,
     Load,
     LoadOrEmpty,
     NeedData,
@@ -59,7 +61,8 @@ fn name_of(word: Word) -> &'static str {
         Word::Address => "node",
         Word::Items => "items",
         Word::Out => "out",
-        Word::Follow => "follow",
+        Word::Follow | Word::Upstreams => "follow",
+        Word::UpstreamsPrune => "follow-prunes",
         Word::Plain => "plain",
         Word::Force => "force",
         Word::From | Word::Sources => "from",
@@ -80,7 +83,8 @@ fn value_of(word: Word) -> &'static str {
         Word::Items | Word::Out | Word::Follow | Word::Load => "FILE",
         Word::From => "Q",
         Word::Refusal => "NUMBER",
-        Word::Sources => "NODE",
+        Word::Sources | Word::Upstreams => "NODE",
+        Word::UpstreamsPrune => "yes|no",
         Word::PartsBytes => "BYTES",
         Word::Socket | Word::ReadSocket => "PATH",
         Word::Listening => "A",
@@ -94,6 +98,13 @@ fn help_of_node(word: Word) -> &'static str {
     match word {
         Word::Sources => {
             "Begin with what this node has: PORT, HOST:PORT or unix:PATH. More than one, also with commas: the first that answers"
+        }
+        Word::Upstreams => {
+            "Begin with what this node has, and follow it: take whatever it has and this one lacks, as it comes. More than one, also with \
+commas: whatever any of them has"
+        }
+        Word::UpstreamsPrune => {
+            "Whether what the nodes of --follow prune is pruned here: yes, or no, to keep what they don't; yes where it isn't given"
         }
         Word::Load => {
             "Begin with what this file has, which 'hkrep save' wrote, before what --from has above it. More than one: the first that is whole; \
@@ -181,7 +192,8 @@ fn shape_of(word: Word) -> Shape {
         Word::Address | Word::Items | Word::Out | Word::Follow | Word::From => Shape::Option,
         Word::PartsBytes | Word::Listening => Shape::Option,
         Word::Socket | Word::ReadSocket | Word::LogFormat => Shape::Option,
-        Word::Sources | Word::Load => Shape::Options,
+        Word::UpstreamsPrune => Shape::Option,
+        Word::Sources | Word::Upstreams | Word::Load => Shape::Options,
         Word::Quiet => Shape::Letter('q'),
         Word::Verbose => Shape::Letter('v'),
         _flag => Shape::Flag,
@@ -203,6 +215,8 @@ fn need_of(word: Word) -> Need {
         Word::Address => Need::without(&["port"]),
         Word::Plain => Need::without(&["json"]),
         Word::Force => Need::with(&["out"]),
+        Word::Upstreams => Need::without(&["no-guard"]),
+        Word::UpstreamsPrune => Need::with(&["follow"]),
         Word::LoadOrEmpty => Need::with(&["load"]),
         Word::Text => Need::without(&["hex"]),
         Word::Stats | Word::Tables => Need::without(&["log"]),

@@ -47,7 +47,12 @@ pub struct Start<'a> {
     pub may_lack_file: bool,
     /// Nodes: what the first that answers has above that is taken next. Those that there are come first.
     pub sources: [Option<NodePlace<'a>>; MOST_SOURCES],
-    /// Whether the program ends where neither can be had.
+    /// Nodes that it follows: what the first that answers has above that is taken before it listens, and then whatever one of them has
+    /// and it lacks. Those that there are come first.
+    pub follows: [Option<NodePlace<'a>>; MOST_SOURCES],
+    /// Whether it prunes what those that it follows prune.
+    pub follow_prunes: bool,
+    /// Whether the program ends where none of these can be had.
     pub needs_data: bool,
     /// How many bytes a second have to have come of another node's reply that isn't complete 30 seconds after it began; 0 is no limit.
     pub read_rate: u64,

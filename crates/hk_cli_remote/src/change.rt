@@ -54,7 +54,7 @@ enum Handed {
 }
 
 /// Whether a fragment was refused as one message, and may be had in chunks: a message, or the node, has no room for all of it at once.
-fn is_for_chunks(why: &Refusal) -> bool {
+pub(crate) fn is_for_chunks(why: &Refusal) -> bool {
     is_too_long(why) || matches!(why, Refusal::Memory)
 }
 

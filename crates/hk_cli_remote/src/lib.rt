@@ -17,7 +17,9 @@ mod save;
 mod shell;
 mod stream;
 mod table;
+mod upstream;
 
 pub use change::fetch_from;
 pub use link::refusal_of;
 pub use order::{Terminal, run_order};
+pub use upstream::{Delta, Upstream};

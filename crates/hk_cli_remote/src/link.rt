@@ -16,6 +16,7 @@ use hk_types::{FormFault, Refusal};
 use std::alloc::Global;
 use std::io;
 use std::io::{ErrorKind, Stderr};
+use std::time::Duration;
 
 /// An open connection to a node.
 #[derive(Drop)]
@@ -178,6 +179,13 @@ impl Link {
     /// What its memory grows by.
     pub(crate) fn alloc(&self) -> Global {
         self.alloc
+    }
+
+    /// From now on the node is waited for so many seconds at most, 1 or more, each time that bytes are to come or to go. It says whether
+    /// the system has it so.
+    pub(crate) fn wait_at_most(&mut self, seconds: u64) -> bool {
+        self.limits.reply_seconds = seconds;
+        self.stream.set_limit(Duration::from_secs(seconds)).is_ok()
     }
 
     /// Why a read or a write of the stream stops the command: the node let it wait too long, or this.

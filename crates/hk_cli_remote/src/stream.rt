@@ -60,7 +60,7 @@ impl Stream {
     }
 
     /// Has each read and write wait for so long at most.
-    fn set_limit(&self, limit: Duration) -> io::Result<()> {
+    pub(crate) fn set_limit(&self, limit: Duration) -> io::Result<()> {
         match self {
             Stream::Tcp(stream) => {
                 stream.set_read_timeout(Some(limit))?;

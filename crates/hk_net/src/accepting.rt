@@ -34,7 +34,8 @@ fn leave<J: NodeName, N: Wait + Drop, R: Wait>(
         place,
     };
     let is_left = inbox.leave(rt, arrival).is_ok();
-    shop.staff.bell.wake(worker);
+    let bell = shop.staff.bell;
+    bell.wake(worker);
     is_left
 }
 

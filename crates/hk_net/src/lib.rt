@@ -28,5 +28,5 @@ pub use hk_host::{
     LinkEvent, NetFault, NodeHost, Speech, Subject, serve_links, serve_parts, serve_plain,
 };
 pub use hk_link::{LinkState, Meters, NodeSide, PartsBudget, PartsHost, given_law};
-pub use staying::serve_forever;
+pub use staying::{bell_of, serve_forever};
 pub use watching::Watch;

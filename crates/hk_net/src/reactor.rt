@@ -80,7 +80,8 @@ impl<'w, 'd, J: NodeName, R: Wait + Clock + 'w> Reactor<'w, 'd, J, R> {
 
     /// Waits until something happens, or somebody has waited long enough.
     pub(crate) fn wait(&mut self, events: &mut Events) {
-        let time_out = self.worker.time_out(self.staff.bell.readable());
+        let bell = self.staff.bell;
+        let time_out = self.worker.time_out(bell.readable());
         if self.poll.poll(events, time_out).is_err() {
             thread::sleep(self.rt, Duration::from_millis(WAIT_PAUSE));
         }
@@ -99,12 +100,13 @@ impl<'w, 'd, J: NodeName, R: Wait + Clock + 'w> Reactor<'w, 'd, J, R> {
     pub(crate) fn moment(&self, passes: Passes) -> Moment
         ensures { result.passes ≡ passes }
     {
+        let bell = self.staff.bell;
         Moment {
             passes,
             is_at_long_end: self.staff.is_at_long_end(self.worker.number),
             counts_reads: self.staff.limits.read_seconds > 0,
             lets_go: !self.worker.has_freed,
-            readable: self.staff.bell.readable(),
+            readable: bell.readable(),
             now: self.worker.now,
         }
     }

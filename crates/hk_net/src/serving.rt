@@ -70,7 +70,8 @@ impl<'w, 'd, J: NodeName + 'w, N: Wait + Drop + 'w, R: Threads + Wait + Clock + 
             Some(client) => self.reactor.worker.cut(token, client),
             None => {
                 self.reactor.worker.links.free(token);
-                staff.bell.wake(worker);
+                let bell = staff.bell;
+                bell.wake(worker);
             }
         }
     }
@@ -160,7 +161,8 @@ impl<'w, 'd, J: NodeName + 'w, N: Wait + Drop + 'w, R: Threads + Wait + Clock + 
         let staff = &self.shop.staff;
         self.reactor.worker.end_round(&staff.limits);
         let least = self.reactor.worker.waiting.least_number();
-        staff.bell.expect(self.reactor.worker.number, least);
+        let bell = staff.bell;
+        bell.expect(self.reactor.worker.number, least);
         seat
     }
 
@@ -232,7 +234,8 @@ impl<'w, 'd, J: NodeName + 'w, N: Wait + Drop + 'w, R: Threads + Wait + Clock + 
             self.take_arrivals();
         }
         let staff = &self.shop.staff;
-        self.reactor.worker.wake_due(staff.bell.readable());
+        let bell = staff.bell;
+        self.reactor.worker.wake_due(bell.readable());
         self.reactor.worker.look_at_limits(&staff.limits);
         self.catch_up();
         self.take_turns(seat)

@@ -17,7 +17,7 @@ pub(crate) struct Staff<'d> {
     /// How many workers there are: first those for short answers, then as many for long ones.
     pub(crate) workers: usize,
     /// What wakes each of them.
-    pub(crate) bell: Bell,
+    pub(crate) bell: &'d Bell,
     pub(crate) limits: Limits,
     /// Where it is counted what connections do.
     pub(crate) meters: &'d Meters<'d>,

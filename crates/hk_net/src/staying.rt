@@ -130,7 +130,7 @@ fn start_door<
     shop: &'s Shop<'d, J, N>,
     events: &Sender<(usize, LinkEvent)>,
 ) -> bool {
-    match Teller::new(events, &shop.staff.bell) {
+    match Teller::new(events, shop.staff.bell) {
         Ok(teller) => scope
             .spawn(move || accept_all(rt, shop, number, teller))
             .is_ok(),
@@ -159,7 +159,7 @@ fn start_workers<
 ) {
     let mut number = 0usize;
     for (poll, seat) in polls.into_iter().zip(seats.into_iter()) {
-        let tools = tools_of(alloc, number, poll, events, &shop.staff.bell);
+        let tools = tools_of(alloc, number, poll, events, shop.staff.bell);
         if start_worker(scope, rt, shop, tools, seat) {
             shop.staff.note_running(number);
         } else {
@@ -231,8 +231,14 @@ fn serve_shop<
     )
 }
 
-/// The sets of sockets of so many workers, and the bell that wakes whoever waits for them.
-fn bell_of<R: Net>(rt: &R, alloc: Global, workers: usize) -> Result<(Vec<Poll>, Bell), NetFault> {
+/// The sets of sockets of so many workers, and the bell that wakes whoever waits for them: what else changes the node, beside its
+/// connections, rings it with what is readable then. `Memory` comes where the lists can't be made, `Socket` where the system has no set
+/// of sockets for a worker. Cost: O(w), w workers.
+pub fn bell_of<R: Net>(
+    rt: &R,
+    alloc: Global,
+    workers: usize,
+) -> Result<(Vec<Poll>, Bell), NetFault> {
     let (polls, wakers) = polls_of(rt, alloc, workers)?;
     let bell = Bell::new(alloc, wakers)?;
     Ok((polls, bell))
@@ -247,26 +253,24 @@ fn ring_first<J: NodeName>(bell: &Bell, seats: &mut Vec<ReaderSeat<J>>) {
     }
 }
 
-/// What all threads share that has nothing of the node itself, and the sets of sockets of the workers.
-fn staff_of<'d, J: NodeName, N: Wait + Drop, R: Net>(
-    rt: &R,
+/// What all threads share that has nothing of the node itself.
+fn staff_of<'d, J: NodeName, N: Wait + Drop>(
     alloc: Global,
     doors: &[Door<'d, J, N>],
     workers: usize,
+    bell: &'d Bell,
     limits: Limits,
     meters: &'d Meters<'d>,
-) -> Result<(Vec<Poll>, Staff<'d>), NetFault> {
+) -> Result<Staff<'d>, AllocError> {
     let places = places_of(alloc, doors)?;
-    let (polls, bell) = bell_of(rt, alloc, workers)?;
-    let staff = Staff {
+    Ok(Staff {
         places,
         workers,
         bell,
         limits,
         meters,
         running: AtomicU64::new(0),
-    };
-    Ok((polls, staff))
+    })
 }
 
 /// What all threads share, with these doors.
@@ -283,7 +287,7 @@ fn shop_of<'d, J: NodeName, N: Wait + Drop>(
     })
 }
 
-/// Serves connections without an end, with a worker for each seat: the first half of them give short answers, the others long ones. A
+/// Serves connections without an end, with a worker for each seat, each with a set of sockets of `bell_of` for as many: the first half of them give short answers, the others long ones. A
 /// thread for each door accepts connections, at most as many at once as the door has places, and deals them out to the workers for short
 /// answers. A connection that asks for something long (Delta, Full, JoinThis, MergeThis, Prune, Whole, More, JoinParts, MergeParts, a
 /// query other than for one row, a page of more than 1,024 rows, or a frame of more than 65,536 bytes) is handed to a worker
@@ -300,26 +304,28 @@ fn shop_of<'d, J: NodeName, N: Wait + Drop>(
 /// that takes effect, with the slot of the connection, in the order in which that is seen; connections wait where it is slow, and where it
 /// owes something it is asked a second later. A
 /// failed accept is reported, and tried again after a tenth of a second; it ends nothing. `Memory` comes where the lists can't be made, or
-/// no thread could be started, `Socket` where the system has no set of sockets for a worker. It returns otherwise never. Cost: that of the
+/// no thread could be started. It returns otherwise never. Cost: that of the
 /// sessions.
 pub fn serve_forever<
     'd,
     J: NodeName + Send + Sync,
     N: Wait + Drop + Send + Sync,
-    R: Net + Threads + Wait + Clock + Sync,
+    R: Threads + Wait + Clock + Sync,
     T: Watch,
 >(
     rt: &R,
     alloc: Global,
     doors: Vec<Door<'d, J, N>>,
     seats: Vec<ReaderSeat<J>>,
+    polls: Vec<Poll>,
+    bell: &'d Bell,
     limits: Limits,
     meters: &'d Meters<'d>,
     watch: &mut T,
 ) -> Result<(), NetFault> {
     let mut seats = seats;
-    let (polls, staff) = staff_of(rt, alloc, &doors, seats.len(), limits, meters)?;
-    ring_first(&staff.bell, &mut seats);
+    ring_first(bell, &mut seats);
+    let staff = staff_of(alloc, &doors, seats.len(), bell, limits, meters)?;
     let shop = shop_of(alloc, doors, staff)?;
     serve_shop(rt, alloc, &shop, polls, seats, watch)
 }

@@ -1,0 +1,3 @@
+mod FollowedLists
+mod Bases
+mod Joins
